@@ -1,0 +1,9 @@
+pub mod Steps
+pub mod Joined
+pub mod Digits
+pub mod Numbers
+pub mod Lists
+pub mod Whole
+pub mod Loops
+pub mod Places
+pub mod Tags
