@@ -1,0 +1,9 @@
+pub mod Everywhere
+pub mod Levels
+pub mod OrderLemmas
+pub mod Padded
+pub mod PlainTyped
+pub mod Sizes
+pub mod SoundLemmas
+pub mod TotalOrder
+pub mod TypedLemmas

@@ -1,0 +1,14 @@
+-- what the public contracts rest on
+pub mod Leaves
+pub mod Addresses
+pub mod Layer
+pub mod Size
+pub mod Order
+pub mod Everywhere
+pub mod Sound
+pub mod Kinds
+pub mod Typed
+pub mod Depth
+-- what functions inside promise each other
+pub mod Padding
+pub mod SoundParts

@@ -1,0 +1,67 @@
+//! Addresses, and what isn't one.
+
+ghost use Rattle.std.specs.Prelude.{◌≡◌, ◌≢◌, ◌↔◌, IsTrue, length, slice_index};
+ghost use Rattle.value_core.specs.Leaves.{is_address};
+ghost use Rattle.value_core.specs.Addresses.{IsAnswer};
+
+use std::marker::Model;
+
+/// 22 bytes, the first 0 for an implicit account and 1 for a contract.
+#[derive(Clone, Copy, Debug, PartialEq, Eq)]
+pub struct Address {
+    bytes: [u8; 22],
+}
+
+impl Model for Address {
+    ghost use Rattle.std.specs.Prelude.{IsTrue, List, ℕ};
+    ghost use Rattle.value_core.specs.Leaves.{is_address};
+
+    ghost Value = { List ℕ };
+
+    ghost view = { λ a. a.bytes };
+
+    ghost inverse = { λ l. record { bytes = l } };
+
+    ghost invariant = { λ a. IsTrue (is_address a.bytes) };
+}
+
+/// Why bytes are no address.
+#[derive(Clone, Copy, Debug, PartialEq, Eq)]
+pub enum AddressFault {
+    /// There are that many bytes, and not 22.
+    BadLength(usize),
+    /// The first of the 22 bytes is this one, and neither 0 nor 1.
+    BadFirst(u8),
+}
+
+impl Address {
+    /// The address of these bytes.
+    pub fn from_bytes(b: &[u8]) -> Result<Address, AddressFault>
+        ensures { IsAnswer b.now result }
+    {
+        if b.len() != 22 {
+            return Err(AddressFault::BadLength(b.len()));
+        }
+        if b[0] > 1 {
+            return Err(AddressFault::BadFirst(b[0]));
+        }
+        let mut bytes = [0; 22];
+        bytes.copy_from_slice(b);
+        Ok(Address { bytes })
+    }
+
+    /// Whether this is a contract's address, and not an implicit account's.
+    pub fn is_contract(&self) -> bool
+        ensures { IsTrue result ↔ (slice_index self.now 0 ≡ 1) }
+    {
+        self.bytes[0] == 1
+    }
+
+    /// The 22 bytes.
+    pub fn bytes(&self) -> &[u8; 22]
+        ensures value { result.now ≡ self.now }
+        ensures address { IsTrue (is_address self.now) }
+    {
+        &self.bytes
+    }
+}

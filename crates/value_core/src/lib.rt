@@ -1,0 +1,51 @@
+//! Values of contract data: their types, their order and size, and which value has which type.
+//!
+//! A value is a tree of `Val`, a type a tree of `Ty`. Contracts see both as plain trees without
+//! pointers, so that a copy equals what it copies. Their leaves are seen as numbers and lists of
+//! bytes, and each leaf keeps its own rule as an invariant: a `Num` is a whole number from
+//! -(2^127 - 1) to 2^127 - 1, a `Text` a list of at most 131,071 printable bytes, and so on.
+//!
+//! - `val`, `ty`: the two trees, and the operation that a contract emits. Begin here.
+//! - `num`, `text`, `address`, `name`: the leaves, each made from outside data by its rule.
+//! - `copying`, `sameness`: equal values, and whether two are equal.
+//! - `ordering`: the order of values, which goes by tag first. `order_is_total` says that it is
+//!   a total order, in which equal values alone tie.
+//! - `sizing`: how large a value is.
+//! - `soundness`: ranges, counts, and the order of items and keys.
+//! - `kinds`, `typing`: what a type may be used for, and which values have it.
+//!
+//! A definition over all values is said once for one level of a value, in `specs/Layer.antt`:
+//! its tag, what stands in it, and its parts. Every public call equals its definition in
+//! `specs/`. Only copies and the makers of values take memory. Recursion goes as deep as the
+//! value, and never as far as a list is long.
+#![tactic(auto)]
+
+mod address;
+mod copying;
+mod kinds;
+mod memory;
+mod name;
+mod num;
+mod ordering;
+mod sameness;
+mod sizing;
+mod soundness;
+#[cfg(test)]
+mod tests;
+mod text;
+mod ty;
+mod typing;
+mod val;
+
+pub use address::{Address, AddressFault};
+pub use kinds::{is_comparable, is_passable};
+pub use memory::NoMemory;
+pub use name::Name;
+pub use num::Num;
+pub use ordering::{compare, order_is_total};
+pub use sizing::size;
+pub use soundness::is_sound;
+pub use text::{Blob, Text};
+pub use ty::Ty;
+pub use typing::{has_type, typed_values_are_plain};
+pub use val::{Emit, Val, left, operation, pair, right, some};
