@@ -1,0 +1,104 @@
+//! A ledger in memory, and the next one made from it.
+
+ghost use Rattle.std.specs.Prelude.{◌≡◌, ◌<◌, ◌^◌, ◌↔◌, length, All, IfOk, IsTrue, map};
+ghost use Rattle.std.specs.FinMap.{entries, len};
+ghost use Rattle.ledger_state.specs.Ledger.{AreBalances, Ascends, IsImplicit, balance, changed, pair, supply};
+ghost use Rattle.ledger_state.specs.Holdings.{AreHoldings, balances_of};
+
+use crate::holding::{Head, Holding};
+use crate::merge::{amount_in, merged, place_in, same_holdings};
+use std::alloc::{AllocError, Global};
+use std::marker::Model;
+
+/// Want of memory.
+pub type NoMemory = AllocError;
+
+/// A ledger: its holdings ascend by address, and together stay below 2^63.
+#[derive(Drop)]
+pub struct State {
+    head: Head,
+    holdings: Vec<Holding>,
+}
+
+impl Model for State {
+    ghost use Rattle.ledger_state.specs.Ledger.{Ledger, ledger_code};
+
+    ghost Value = { Ledger };
+
+    ghost coded = { ledger_code };
+
+    ghost use Rattle.ledger_state.specs.Holdings.{AreHoldings, balances_of};
+
+    ghost view = { λ s. record { level = s.head.level; now = s.head.now; balances = balances_of s.holdings.items } };
+
+    ghost invariant = { λ s. AreHoldings s.holdings.items };
+}
+
+impl State {
+    /// The state of these holdings.
+    pub(crate) fn of(head: Head, holdings: Vec<Holding>) -> State
+        requires { AreHoldings holdings.items }
+        ensures { result ≡ record { level = head.level; now = head.now; balances = balances_of holdings.items } }
+    {
+        State { head, holdings }
+    }
+
+    /// The level and the time.
+    pub fn head(&self) -> Head
+        ensures level { result.level ≡ self.now.level }
+        ensures now { result.now ≡ self.now.now }
+    {
+        self.head
+    }
+
+    /// An equal state.
+    pub fn copy(&self, alloc: Global) -> Result<State, NoMemory>
+        ensures { IfOk result (λ s. s ≡ self.now) }
+    {
+        let holdings = self.holdings.clone()?;
+        let head = self.head;
+        Ok(State { head, holdings })
+    }
+
+    /// Whether two states are equal.
+    pub fn same(&self, other: &State) -> bool
+        ensures { IsTrue result ↔ (self.now ≡ other.now) }
+    {
+        self.head == other.head && same_holdings(&self.holdings, &other.holdings)
+    }
+
+    /// What each account has, ascending by address.
+    pub fn holdings(&self) -> &[Holding]
+        ensures pairs { map pair result.now ≡ entries self.now.balances }
+        ensures count { length result.now ≡ len self.now.balances }
+        ensures ascend { Ascends result.now }
+        ensures lawful { AreBalances self.now.balances }
+    {
+        &self.holdings
+    }
+
+    /// What the account of this address has.
+    pub fn balance(&self, address: &[u8; 22]) -> u64
+        ensures { result ≡ balance self.now.balances address.now }
+    {
+        let holdings = self.holdings.as_slice();
+        let (_, back) = holdings.split_at(place_in(holdings, address));
+        amount_in(back, address)
+    }
+
+    /// The state with this head where each account of `changes` has the amount that stands there.
+    pub fn with_balances(
+        &self,
+        alloc: Global,
+        head: Head,
+        changes: &[Holding],
+    ) -> Result<State, NoMemory>
+        requires ascend { Ascends changes.now }
+        requires accounts { All (λ c. IsImplicit c.address) changes.now }
+        requires within { supply (changed self.now.balances changes.now) < 2 ^ 63 }
+        ensures { IfOk result (λ s. s ≡ record { level = head.level; now = head.now; balances = changed self.now.balances changes.now }) }
+    {
+        let holdings = merged(alloc, &self.holdings, changes)?;
+        Ok(State { head, holdings })
+    }
+}
