@@ -1,0 +1,4 @@
+-- what the public contracts rest on
+pub mod Block
+pub mod Spelling
+pub mod Place
