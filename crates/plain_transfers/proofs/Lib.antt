@@ -1,0 +1,6 @@
+pub mod Entries
+pub mod Balances
+pub mod Over
+pub mod Paying
+pub mod Touching
+pub mod Cases

@@ -1,0 +1,122 @@
+//! A state's balances, with what changed kept apart.
+ghost use Rattle.std.specs.Prelude.{◌≡◌, IfOk, OnOk, OnErr};
+ghost use Rattle.ledger_state.specs.Ledger.{AreBalances, IsImplicit, balance, supply};
+ghost use Rattle.plain_transfers.specs.Serial.{serial};
+
+use crate::changes::{Changes, balance_in, holdings_of, pay};
+use crate::footprint::Footprint;
+use block_codec::{Receipt, Transfer};
+use ledger_state::{Head, NoMemory, State};
+use std::alloc::Global;
+use std::collections::BTreeMap;
+use std::marker::Model;
+
+const APPLIED: Receipt = Receipt {
+    applied: true,
+    gas: 0,
+};
+
+const TOO_LOW: Receipt = Receipt {
+    applied: false,
+    gas: 0,
+};
+
+/// What a transfer leaves, beside the balances.
+#[derive(Clone, Copy, Debug)]
+pub struct Ran {
+    pub receipt: Receipt,
+    pub footprint: Footprint,
+}
+
+/// A state's balances after some transfers.
+#[derive(Drop)]
+pub struct Overlay<'a> {
+    state: &'a State,
+    changes: Changes,
+}
+
+impl<'a> Model for Overlay<'a> {
+    ghost use Rattle.ledger_state.specs.Ledger.{Balances};
+    ghost use Rattle.std.specs.FinMap as finmap;
+    ghost use Rattle.std.specs.Coded.{coded_ℕ, coded_list};
+
+    ghost Value = { Balances };
+
+    ghost coded = { finmap.code (coded_list coded_ℕ) coded_ℕ };
+
+    ghost use Rattle.plain_transfers.specs.Changes.{over, AreChanges};
+
+    ghost view = { λ o. over o.state.now.balances o.changes.entries };
+
+    ghost invariant = { λ o. AreChanges o.state.now.balances o.changes.entries };
+}
+
+impl<'a> Overlay<'a> {
+    /// The balances of a state.
+    pub fn new(alloc: Global, state: &'a State) -> Overlay<'a>
+        ensures { result ≡ state.now.balances }
+    {
+        // What every state keeps is told by its holdings.
+        let _lawful = state.holdings();
+        Overlay {
+            state,
+            changes: BTreeMap::new(alloc),
+        }
+    }
+
+    /// What the account of this address has.
+    pub fn balance(&self, address: &[u8; 22]) -> u64
+        ensures { result ≡ balance self.now address.now }
+    {
+        balance_in(self.state, &self.changes, address)
+    }
+}
+
+impl Overlay<'_> {
+    /// Runs a transfer. It may want memory for the accounts that change for the first time.
+    pub fn run(&mut self, transfer: &Transfer) -> Result<Ran, NoMemory>
+        requires source { IsImplicit transfer.now.source }
+        requires dest { IsImplicit transfer.now.dest }
+        ensures balances { OnOk result (self.new ≡ (serial self.old transfer.now).balances) }
+        ensures receipt { IfOk result (λ r. r.receipt ≡ (serial self.old transfer.now).receipt) }
+        ensures footprint { IfOk result (λ r. r.footprint ≡ (serial self.old transfer.now).footprint) }
+        ensures unchanged { OnErr result (self.new ≡ self.old) }
+        ensures supply { supply self.new ≡ supply self.old }
+        ensures lawful { AreBalances self.new }
+    {
+        let _ = &self.state;
+        if transfer.amount == 0 {
+            return Ok(Ran {
+                receipt: APPLIED,
+                footprint: Footprint::new(),
+            });
+        }
+        let source = transfer.source;
+        if self.balance(&source) < transfer.amount {
+            return Ok(Ran {
+                receipt: TOO_LOW,
+                footprint: Footprint::debit(source),
+            });
+        }
+        pay(
+            self.state,
+            &mut self.changes,
+            source,
+            transfer.dest,
+            transfer.amount,
+        )?;
+        Ok(Ran {
+            receipt: APPLIED,
+            footprint: Footprint::debit_and_credit(source, transfer.dest),
+        })
+    }
+
+    /// The state with this head and these balances.
+    pub fn finish(&self, alloc: Global, head: Head) -> Result<State, NoMemory>
+        ensures { IfOk result (λ s.
+            s ≡ record { level = head.level; now = head.now; balances = self.now }) }
+    {
+        let changes = holdings_of(alloc, &self.changes)?;
+        self.state.with_balances(alloc, head, &changes)
+    }
+}

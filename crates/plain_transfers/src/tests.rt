@@ -1,0 +1,116 @@
+//! The ends of a transfer, on a state in which 0a has 100 and 0c has 50.
+
+ghost use Rattle.ledger_state.specs.Ledger.{IsImplicit};
+
+use crate::Overlay;
+use block_codec::{Mode, Touch, Transfer};
+use ledger_state::{Head, read_state};
+use std::test::Fail;
+
+const STATE: &[u8] =
+    b"FJS1\x00\x00\x00\x00\x00\x00\x00\x00\x00\x00\x00\x00\x00\x00\x00\x00\x00\x00\x00\x02\x00\x00\x00\x00\x00\x00\x00\x00\x00\x00\x00\x00\x00\x00\x00\x00\x00\x00\x00\x00\x00\x00\x0a\x05\x00\x00\x00\x00\x00\x00\x00d\x00\x00\x00\x00\x00\x00\x00\x00\x00\x00\x00\x00\x00\x00\x00\x00\x00\x00\x00\x00\x00\x00\x0c\x05\x00\x00\x00\x00\x00\x00\x002";
+
+fn account(last: u8) -> [u8; 22]
+    ensures { IsImplicit result }
+{
+    [
+        0, 0, 0, 0, 0, 0, 0, 0, 0, 0, 0, 0, 0, 0, 0, 0, 0, 0, 0, 0, 0, last,
+    ]
+}
+
+struct Row {
+    source: u8,
+    dest: u8,
+    amount: u64,
+    applied: bool,
+    touched: &'static [(u8, Mode)],
+    // What 0a, 0b and 0c have afterwards.
+    balances: [u64; 3],
+}
+
+const ROWS: [Row; 6] = [
+    Row {
+        source: 0x0a,
+        dest: 0x0b,
+        amount: 10,
+        applied: true,
+        touched: &[(0x0a, Mode::Own), (0x0b, Mode::Credit)],
+        balances: [90, 10, 50],
+    },
+    Row {
+        source: 0x0c,
+        dest: 0x0a,
+        amount: 50,
+        applied: true,
+        touched: &[(0x0a, Mode::Credit), (0x0c, Mode::Own)],
+        balances: [150, 0, 0],
+    },
+    Row {
+        source: 0x0a,
+        dest: 0x0a,
+        amount: 10,
+        applied: true,
+        touched: &[(0x0a, Mode::Own)],
+        balances: [100, 0, 50],
+    },
+    Row {
+        source: 0x0a,
+        dest: 0x0b,
+        amount: 0,
+        applied: true,
+        touched: &[],
+        balances: [100, 0, 50],
+    },
+    Row {
+        source: 0x0a,
+        dest: 0x0b,
+        amount: 101,
+        applied: false,
+        touched: &[(0x0a, Mode::Own)],
+        balances: [100, 0, 50],
+    },
+    Row {
+        source: 0x0b,
+        dest: 0x0b,
+        amount: 1,
+        applied: false,
+        touched: &[(0x0b, Mode::Own)],
+        balances: [100, 0, 50],
+    },
+];
+
+#[test]
+fn each_transfer_ends_as_by_hand(rt: HostRuntime) -> Result<(), Fail> {
+    let state = read_state(rt.alloc(), STATE).expect(&rt, "a state");
+    for row in ROWS.iter() {
+        let mut overlay = Overlay::new(rt.alloc(), &state);
+        let transfer = Transfer {
+            source: account(row.source),
+            dest: account(row.dest),
+            amount: row.amount,
+            gas: 0,
+            turns: 0,
+        };
+        let ran = overlay.run(&transfer)?;
+        assert_eq!(rt; (ran.receipt.applied, ran.receipt.gas), (row.applied, 0));
+        let mut published = Vec::new(rt.alloc());
+        for (last, mode) in row.touched.iter() {
+            published.push(Touch {
+                address: account(*last),
+                mode: *mode,
+            })?;
+        }
+        assert!(rt; ran.footprint.is_listed(&published));
+        let next = overlay.finish(rt.alloc(), Head { level: 1, now: 60 })?;
+        assert_eq!(rt; next.head(), Head { level: 1, now: 60 });
+        assert_eq!(rt;
+            [
+                next.balance(&account(0x0a)),
+                next.balance(&account(0x0b)),
+                next.balance(&account(0x0c))
+            ],
+            row.balances
+        );
+    }
+    Ok(())
+}
