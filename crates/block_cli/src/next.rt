@@ -1,0 +1,25 @@
+//! The state after a block, with its digest.
+ghost use Rattle.std.specs.Prelude.{◌≡◌, IfOk};
+ghost use Rattle.state_digest.specs.Digest.{digest_of};
+
+use ledger_state::State;
+use state_digest::digest;
+use std::alloc::{AllocError, Global};
+
+/// A state with its digest, which is taken once.
+#[derive(Drop)]
+pub struct Next {
+    pub state: State,
+    pub digest: [u8; 32],
+    ghost digested: { digest ≡ digest_of state.balances },
+}
+
+impl Next {
+    /// The state with its digest.
+    pub fn new(alloc: Global, state: State) -> Result<Next, AllocError>
+        ensures { IfOk result (λ next. next.state ≡ state) }
+    {
+        let digest = digest(alloc, &state)?;
+        Ok(Next { state, digest })
+    }
+}
