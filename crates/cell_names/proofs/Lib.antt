@@ -1,0 +1,6 @@
+pub mod Ascending
+pub mod Touches
+pub mod Rising
+pub mod Grammar
+pub mod NotYet
+pub mod Later
