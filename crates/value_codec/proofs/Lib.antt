@@ -1,0 +1,8 @@
+pub mod Spelt
+pub mod Numbers
+pub mod LastLemmas
+pub mod Turns
+pub mod Levels
+pub mod Ascending
+pub mod Rows
+pub mod Laws

@@ -1,0 +1,66 @@
+ghost use Rattle.std.specs.Prelude.{◌≤◌, IfOk, IsTrue};
+ghost use Rattle.value_core.specs.Depth.{depth_of};
+ghost use Rattle.value_core.specs.Sound.{is_plain};
+
+use crate::{At, FieldFault, read_val, write_val};
+use std::alloc::{AllocError, Global};
+use std::test::Fail;
+use value_core::{Num, Text, Val, pair};
+
+/// `Pair (Int -1) (Text "ab")`.
+const SPELT: [u8; 25] = [
+    0x0e, 0x03, 0xff, 0xff, 0xff, 0xff, 0xff, 0xff, 0xff, 0xff, 0xff, 0xff, 0xff, 0xff, 0xff, 0xff,
+    0xff, 0xff, 0x07, 0, 0, 0, 2, 0x61, 0x62,
+];
+
+fn pair_of(alloc: Global, number: Num, text: Text) -> Result<Val, AllocError>
+    ensures plain { IfOk result (λ v. IsTrue (is_plain v)) }
+    ensures deep { IfOk result (λ v. depth_of v ≤ 128) }
+{
+    pair(alloc, Val::Int(number), Val::Text(text))
+}
+
+#[test]
+fn a_pair_is_written_and_read_again(rt: HostRuntime) -> Result<(), Fail> {
+    let text = Text::new(Vec::from_slice(rt.alloc(), b"ab")?).ok_or("a text")?;
+    let number = Num::new(-1).ok_or("a number")?;
+    let value = pair_of(rt.alloc(), number, text)?;
+    let mut out = Vec::from_slice(rt.alloc(), &[9])?;
+    write_val(rt.alloc(), &value, &mut out)?;
+    assert_eq!(rt; &out[1..], SPELT.as_slice());
+    let (again, end) = read_val(rt.alloc(), &out, 1)?;
+    assert!(rt; again.same(&value));
+    assert_eq!(rt; end, 26);
+    Ok(())
+}
+
+#[test]
+fn the_first_fault_is_told_at_its_place(rt: HostRuntime) -> Result<(), Fail> {
+    let deep = vec![in rt.alloc(); 0x0b; 129]?;
+    let faults: [(&[u8], usize); 8] = [
+        // cut by one byte, the text is told at the first of its bytes
+        (&SPELT[..24], 23),
+        // no tag
+        (&[0x13], 0),
+        // the place of a big map
+        (&[0x12, 16], 1),
+        // two items that are equal
+        (&[0x10, 0, 0, 0, 2, 2, 2], 6),
+        // a second key that is below the first, before its value is read
+        (&[0x11, 0, 0, 0, 2, 2, 0, 1], 7),
+        // a byte that no text has
+        (&[0x07, 0, 0, 0, 2, 0x61, 0x7f], 5),
+        // an address of neither kind, though it is cut as well
+        (&[0x09, 2], 1),
+        // the part past the depth
+        (&deep, 128),
+    ];
+    for (bytes, place) in faults {
+        let told = read_val(rt.alloc(), bytes, 0);
+        assert!(rt;
+            matches!(told, Err(FieldFault::At(At(at))) if at == place),
+            "{bytes:?}"
+        );
+    }
+    Ok(())
+}
