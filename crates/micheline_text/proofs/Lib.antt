@@ -1,0 +1,16 @@
+pub mod TokensLemmas
+pub mod Spelt
+pub mod Held
+pub mod Found
+pub mod Answered
+pub mod Goes
+pub mod FaultLaws
+pub mod FirstFault
+pub mod PrintLemmas
+pub mod Laid
+pub mod Tokens
+pub mod GapFound
+pub mod TokenFound
+pub mod LaidFound
+pub mod Lays
+pub mod AgainLaws

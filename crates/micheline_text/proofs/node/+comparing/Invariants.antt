@@ -1,0 +1,6 @@
+-- The nodes so far are equal.
+use Rattle.std.proofs.Common.{◌≡◌, take}
+use Rattle.micheline_text.proofs.node.+comparing.Given as goal
+
+abbrev pub invariant-same_nodes-loop-i : goal.invariant-same_nodes-loop-i
+invariant-same_nodes-loop-i l = take l.i l.a ≡ take l.i l.b

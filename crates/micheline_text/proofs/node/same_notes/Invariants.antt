@@ -1,0 +1,6 @@
+-- The annotations so far are equal.
+use Rattle.std.proofs.Common.{◌≡◌, take}
+use Rattle.micheline_text.proofs.node.same_notes.Given as goal
+
+abbrev pub invariant-loop-i : goal.invariant-loop-i
+invariant-loop-i l = take l.i l.a ≡ take l.i l.b

@@ -1,0 +1,11 @@
+-- What is printed so far.
+use Rattle.std.proofs.Common.{◌≡◌, ◌++◌, take, map}
+use Rattle.std.specs.List.{flat_map}
+use Rattle.micheline_text.specs.Printed.{argument, items, print}
+use Rattle.micheline_text.proofs.printer.+printing.Given as goal
+
+abbrev pub invariant-put_arguments-loop-arg : goal.invariant-put_arguments-loop-arg
+invariant-put_arguments-loop-arg l = l.out.items ≡ l.fn.out.items ++ flat_map argument (map print (take l.arg-index l.args))
+
+abbrev pub invariant-put_items-loop-i : goal.invariant-put_items-loop-i
+invariant-put_items-loop-i l = l.out.items ≡ l.fn.out.items ++ items (map print (take l.i l.nodes))

@@ -1,0 +1,145 @@
+-- The token in front of bytes that begin with no gap, and how many bytes it takes.
+use Rattle.std.specs.Prelude.{ℕ, zero, suc, ◌+◌, ◌-◌, ◌*◌, ◌%◌, ◌^◌, ℤ, pos, negsuc, Bool, true, false, List, [], ◌∷◌, length, take, drop, nat_lt, nat_le, ◌==◌, ◌&&◌, ◌||◌, if◌then◌else◌, fold, slice_index, Option, Some, None}
+use Rattle.std.specs.List.{prefix_len}
+use Rattle.value_core.specs.Leaves.{is_text, is_blob}
+use Rattle.micheline_text.specs.Kinds.{is_digit, is_letter, is_word_byte, is_note_byte, is_hex, begins_note, is_plain}
+use Rattle.micheline_text.specs.Gaps.{gap_from}
+use Rattle.micheline_text.specs.declared.token.Token.{Token}
+use Rattle.micheline_text.specs.declared.token.Token.TheVariants as token
+use Rattle.micheline_text.specs.declared.text.Part.{Part}
+use Rattle.micheline_text.specs.declared.text.Part.TheVariants as part
+use Rattle.micheline_text.specs.declared.text.Ending.{Ending}
+use Rattle.micheline_text.specs.declared.text.Ending.TheVariants as ending
+use Rattle.micheline_text.specs.declared.gap.Gap.{Gap}
+use Rattle.micheline_text.specs.declared.gap.Gap.TheVariants as gap
+use Rattle.micheline_text.specs.declared.gap.Mode.TheVariants as mode
+
+-- ---- numbers
+
+-- the number that decimal digits stand for
+abbrev pub decimal_value : List ℕ → ℕ
+decimal_value digits = fold (λ n b. 10 * n + (b - 48)) 0 digits
+
+-- the number, below zero or not
+abbrev pub signed : Bool → ℕ → ℤ
+signed false n = pos n
+signed true zero = pos 0
+signed true (suc n) = negsuc n
+
+abbrev pub numeral : Bool → ℕ → Token
+numeral below n = if nat_lt n (2 ^ 127) then token.Number (signed below n) else token.Wide
+
+abbrev pub number_token : Bool → List ℕ → Token
+number_token below digits = numeral below (decimal_value digits)
+
+-- ---- byte literals
+
+abbrev pub hex_value : ℕ → ℕ
+hex_value b =
+    if nat_le 48 b && nat_le b 57 then b - 48
+    else if nat_le 65 b && nat_le b 70 then b - 55
+    else if nat_le 97 b && nat_le b 102 then b - 87 else 0
+
+-- the bytes that pairs of digits stand for, after the first digit of a pair or between pairs
+abbrev pub unhex : Option ℕ → List ℕ → List ℕ
+unhex high [] = []
+unhex None (b ∷ digits) = unhex (Some (hex_value b)) digits
+unhex (Some high) (b ∷ digits) = (16 * high + hex_value b) ∷ unhex None digits
+
+abbrev pub bytes_token : List ℕ → Token
+bytes_token digits =
+    if (length digits % 2 == 0) && is_blob (unhex None digits) then token.Bytes (unhex None digits) else token.Faulty
+
+-- ---- strings
+
+-- what a byte of a string says, after a `\` or not
+abbrev pub part_at : Bool → ℕ → Part
+part_at false b =
+    if b == 34 then part.End else if b == 92 then part.Escape else if is_plain b then part.Byte b else part.Wrong
+part_at true b =
+    if b == 110 then part.Byte 10 else if (b == 34) || (b == 92) then part.Byte b else part.Wrong
+
+-- a string behind its quote: what it says, how many bytes it takes, and how it ends
+abbrev pub Quoted : Type 0
+Quoted = List ℕ × ℕ × Ending
+
+abbrev pub one_more : Quoted → Quoted
+one_more q = (q.0, 1 + q.1, q.2)
+
+abbrev pub said : ℕ → Quoted → Quoted
+said b q = (b ∷ q.0, 1 + q.1, q.2)
+
+abbrev pub after_part : Part → (Bool → Quoted) → Quoted
+after_part (part.Byte b) rest = said b (rest false)
+after_part part.Escape rest = one_more (rest true)
+after_part part.End rest = ([], 1, ending.Closed)
+after_part part.Wrong rest = ([], 0, ending.Wrong)
+
+abbrev pub quoted : Bool → List ℕ → Quoted
+quoted escaped [] = ([], 0, ending.Open)
+quoted escaped (b ∷ bytes) = after_part (part_at escaped b) (λ e. quoted e bytes)
+
+abbrev pub text_by : Ending → List ℕ → Token
+text_by ending.Closed text = if is_text text then token.Text text else token.Faulty
+text_by ending.Open text = if is_text text then token.OpenText else token.Faulty
+text_by ending.Wrong text = token.Faulty
+
+-- ---- any token
+
+-- a token of one byte
+abbrev pub mark : ℕ → Token
+mark b =
+    if b == 123 then token.OpenBrace else if b == 125 then token.CloseBrace
+    else if b == 40 then token.OpenParen else if b == 41 then token.CloseParen
+    else if b == 59 then token.Semicolon else token.Faulty
+
+abbrev pub text_at : List ℕ → Token × ℕ
+text_at bytes = let q = quoted false (drop 1 bytes) in (text_by q.2 q.0, 1 + q.1)
+
+abbrev pub minus_at : List ℕ → Token × ℕ
+minus_at bytes =
+    let n = prefix_len is_digit (drop 1 bytes) in
+    if n == 0 then (token.Faulty, 1) else (number_token true (take n (drop 1 bytes)), 1 + n)
+
+abbrev pub begins_hex : List ℕ → Bool
+begins_hex bytes = nat_le 2 (length bytes) && (slice_index bytes 0 == 48) && (slice_index bytes 1 == 120)
+
+abbrev pub digits_at : List ℕ → Token × ℕ
+digits_at bytes =
+    if begins_hex bytes then
+    (let n = prefix_len is_hex (drop 2 bytes) in (bytes_token (take n (drop 2 bytes)), 2 + n))
+    else (let n = prefix_len is_digit bytes in (number_token false (take n bytes), n))
+
+abbrev pub word_at : List ℕ → Token × ℕ
+word_at bytes = let n = prefix_len is_word_byte bytes in (token.Word (take n bytes), n)
+
+abbrev pub note_at : List ℕ → Token × ℕ
+note_at bytes = let n = 1 + prefix_len is_note_byte (drop 1 bytes) in (token.Note (take n bytes), n)
+
+abbrev pub token_by : ℕ → List ℕ → Token × ℕ
+token_by b bytes =
+    if b == 34 then text_at bytes else if b == 45 then minus_at bytes
+    else if is_digit b then digits_at bytes else if is_letter b then word_at bytes
+    else if begins_note b then note_at bytes else (mark b, 1)
+
+abbrev pub token_at : List ℕ → Token × ℕ
+token_at bytes = token_by (slice_index bytes 0) bytes
+
+-- ---- all tokens
+
+-- each token with the offset of its first byte; so many bytes stand before these
+abbrev pub after_gap : ℕ → List ℕ → Gap → (ℕ → List ℕ → List (ℕ × Token)) → List (ℕ × Token)
+after_gap at bytes gap.End rest = []
+after_gap at bytes (gap.Comment left) rest = (at + (length bytes - left), token.OpenComment) ∷ []
+after_gap at bytes (gap.Token left) rest =
+    let from = length bytes - left in
+    let found = token_at (drop from bytes) in
+    (at + from, found.0) ∷ rest (at + from + found.1) (drop found.1 (drop from bytes))
+
+abbrev pub tokens_from : ℕ → ℕ → List ℕ → List (ℕ × Token)
+tokens_from zero at bytes = []
+tokens_from (suc n) at bytes = after_gap at bytes (gap_from mode.Between bytes) (tokens_from n)
+
+-- the tokens of a text, and what stands in the place of one
+unfoldable pub tokens_of : ℕ → List ℕ → List (ℕ × Token)
+tokens_of at bytes = tokens_from (suc (length bytes)) at bytes

@@ -1,0 +1,41 @@
+//! Micheline text, read with exact faults and printed.
+//!
+//! A text is nodes parted by `;`. A node is a number, a string, a byte literal, a sequence in
+//! braces, or an application: a word, and annotations and arguments in any mixture. An argument
+//! that has arguments or annotations of its own stands in parentheses. Blanks and comments part
+//! tokens, and nothing else is said by them.
+//!
+//! - `node`: the tree, each node with its place. Begin here.
+//! - `reader`: bytes to nodes, token by token. It keeps a stack of open brackets, and calls itself
+//!   nowhere: `level` says what may follow at each place.
+//! - `gap`, `lexer`, `text`, `literals`: what parts tokens, and the token in front.
+//! - `printer`: nodes to bytes.
+//! - `fault`: why bytes are no text, and where that is told.
+//!
+//! `specs/Grammar.antt` says which tokens make up a text, and knows no order of reading.
+//! `specs/Layout.antt` says which bytes are laid out as which tokens. A fault is the leftmost token
+//! after which no text of the grammar goes on (`specs/Faults.antt`).
+#![tactic(auto)]
+
+mod fault;
+mod gap;
+mod kinds;
+mod level;
+mod lexer;
+mod literals;
+mod node;
+mod pile;
+mod printer;
+mod reader;
+mod slices;
+mod text;
+mod token;
+
+pub use fault::TextFault;
+pub use node::{Body, Node};
+pub use printer::print_node;
+pub use reader::read_nodes;
+pub use value_core::NoMemory;
+
+#[cfg(test)]
+mod tests;

@@ -1,0 +1,73 @@
+//! Texts with the answers that the grammar gives them, and what no clause says.
+
+use crate::{NoMemory, TextFault, print_node, read_nodes};
+use std::alloc::{AllocError, Global};
+use std::test::Fail;
+
+/// The nodes as they are printed, each with a `;` behind it, or the fault.
+fn answer(alloc: Global, text: &str) -> Result<String, NoMemory> {
+    let bytes = text.as_bytes();
+    if bytes.len() > 1000 {
+        return Err(AllocError);
+    }
+    match read_nodes(alloc, bytes) {
+        Ok(nodes) => {
+            let mut out = Vec::new(alloc);
+            for node in nodes.as_slice() {
+                out.extend_from_slice(print_node(alloc, node)?.as_slice())?;
+                out.push(b';')?;
+            }
+            String::from_utf8(out).map_err(|_| AllocError)
+        }
+        Err(TextFault::BadToken(at)) => format!(in alloc; "BadToken {at}"),
+        Err(TextFault::Unclosed(at)) => format!(in alloc; "Unclosed {at}"),
+        Err(TextFault::WiderNumber(at)) => format!(in alloc; "WiderNumber {at}"),
+        Err(TextFault::TooDeep(at)) => format!(in alloc; "TooDeep {at}"),
+        Err(TextFault::NoMemory) => Err(AllocError),
+    }
+}
+
+#[test]
+fn texts_are_printed_again_or_refused_at_their_first_fault(rt: HostRuntime) -> Result<(), Fail> {
+    let rows = [
+        (
+            "PUSH nat 170141183460469231731687303715884105728",
+            "WiderNumber 9",
+        ),
+        (
+            "PUSH nat 170141183460469231731687303715884105727",
+            "PUSH nat 170141183460469231731687303715884105727;",
+        ),
+        ("P (", "Unclosed 2"),
+        ("1 \"a", "BadToken 2"),
+        ("P\"a\"0x00{}-1", "P \"a\" 0x00 {} -1;"),
+        ("P (Q) (R 0XAB %a)", "P Q (R %a 0 XAB);"),
+        ("P (Q) (R 0xAB %a)", "P Q (R %a 0xab);"),
+        ("{ a ; {} ; \"\\n\" ; } # b", "{ a ; {} ; \"\\n\" };"),
+        (" ;", "BadToken 1"),
+        ("/*/", "Unclosed 0"),
+        ("-0", "0;"),
+        ("", ""),
+    ];
+    for (text, wanted) in rows {
+        assert_eq!(rt; answer(rt.alloc(), text)?.as_str(), wanted);
+    }
+    Ok(())
+}
+
+#[test]
+fn a_copy_is_the_same_and_another_place_is_not(rt: HostRuntime) -> Result<(), Fail> {
+    let nodes = read_nodes(rt.alloc(), "P %a {1} 0x00 \"b\" ; P".as_bytes()).ok();
+    let again = read_nodes(rt.alloc(), " P %a {1} 0x00 \"b\"".as_bytes()).ok();
+    match (nodes, again) {
+        (Some(nodes), Some(again)) => {
+            assert_eq!(rt; nodes.len(), 2);
+            assert_eq!(rt; again.len(), 1);
+            let first = &nodes.as_slice()[0];
+            assert!(rt; first.same(&first.copy(rt.alloc())?));
+            assert!(rt; !first.same(&again.as_slice()[0]));
+        }
+        _ => assert!(rt; false),
+    }
+    Ok(())
+}
