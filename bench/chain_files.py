@@ -1,4 +1,4 @@
-"""The files of a chain, written from docs/FORMATS.md alone: states, blocks and digests.
+"""The files of a chain as docs/FORMATS.md has them: states, blocks and digests.
 
 The benchmarks and the examples are made with it. It shares no code with the program, so that it can tell where both read
 a format differently.

@@ -2,7 +2,7 @@
 """Writes the folders of examples/: runs of the program with what it prints, its status and the files afterwards.
 
 What is wanted is computed here from the rules in docs/, not by the program; `tests/cases` compares. The numbered runs in
-examples/drawn were drawn at random by another reading of the same rules, and stay as they are.
+examples/drawn come from another, independent reading of the same rules, and stay as they are.
 """
 import os
 import shutil
