@@ -17,7 +17,8 @@ use Rattle.cell_names.specs.declared.cell.Cell.TheVariants.{Balance}
 use Rattle.cell_names.specs.declared.mode.Mode.{Mode}
 use Rattle.cell_names.specs.declared.mode.Mode.TheVariants as modes
 use Rattle.cell_names.specs.Spelling.{spell_cell, spell_mode, spell_touch, spell_footprint, IsCell, IsFootprint}
-use Rattle.cell_names.specs.Reading.{address, behind_kind, cell, mode_of_byte, mode, is_above, touch, next_last, footprint}
+use Rattle.value_codec.specs.Reading.{address}
+use Rattle.cell_names.specs.Reading.{behind_kind, cell, mode_of_byte, mode, is_above, touch, next_last, footprint}
 use Rattle.cell_names.proofs.Ascending.{both_true}
 use Rattle.cell_names.proofs.Rising.{IsNext, touches_from_next, next_from_touches}
 

@@ -5,9 +5,11 @@ use Rattle.std.specs.Option.{option_map}
 use Rattle.std.proofs.lemmas.List.{append-nil}
 use Rattle.cell_names.specs.declared.cell.Cell.{Cell}
 use Rattle.cell_names.specs.declared.mode.Mode.{Mode}
-use Rattle.cell_names.specs.declared.fault.CellStop.{CellStop}
-use Rattle.cell_names.specs.declared.fault.CellStop.TheVariants as stops
-use Rattle.cell_names.specs.Reading.{Reading, field, then_read, mode, is_above, cell_or_later, touch_or_later, touches_or_later, last_cell, Stops}
+use Rattle.cell_names.specs.declared.fault.FormatStop.{FormatStop}
+use Rattle.cell_names.specs.declared.fault.FormatStop.TheVariants as stops
+use Rattle.cell_names.specs.Partial.{Reading, field, then_read}
+use Rattle.cell_names.specs.Answers.{Stops}
+use Rattle.cell_names.specs.Reading.{mode, is_above, cell_or_later, touch_or_later, touches_or_later, last_cell}
 
 -- ---- one touch after another, as a loop reads them
 
@@ -35,7 +37,7 @@ module _ (front : List (Cell × Mode)) (count i : ℕ) (bytes : List ℕ) (total
       rw (left, was) (regroup front t (touches_or_later (Some t.0) (count - (i + 1)) rest)) in
       ap (λ (last : Option Cell). with_front (front ++ t ∷ []) (touches_or_later last (count - (i + 1)) rest)) (last_cell-push front t) ∙ sym one ∙ so_far
 
-  pub ends : (e : CellStop) → i < count → Stops e (touch_or_later (last_cell front) bytes) → Stops e total
+  pub ends : (e : FormatStop) → i < count → Stops e (touch_or_later (last_cell front) bytes) → Stops e total
   ends stops.NoMemory lt stopped = tt
   ends (stops.Left n) lt stopped =
       let left : count - i ≡ suc (count - (i + 1)) = omega arith in

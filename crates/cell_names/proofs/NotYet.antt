@@ -17,38 +17,20 @@ use Rattle.byte_fields.proofs.Numbers.{number_reads}
 use Rattle.byte_fields.proofs.Places.{is_found}
 use Rattle.cell_names.specs.declared.cell.Cell.{Cell}
 use Rattle.cell_names.specs.declared.mode.Mode.{Mode}
-use Rattle.cell_names.specs.declared.fault.CellStop.{CellStop}
-use Rattle.cell_names.specs.declared.fault.CellStop.TheVariants as stops
-use Rattle.cell_names.specs.declared.fault.CellFault.{CellFault}
-use Rattle.cell_names.specs.declared.fault.CellFault.TheVariants as faults
+use Rattle.cell_names.specs.declared.fault.FormatStop.{FormatStop}
+use Rattle.cell_names.specs.declared.fault.FormatStop.TheVariants as stops
+use Rattle.cell_names.specs.declared.fault.FormatFault.{FormatFault}
+use Rattle.cell_names.specs.declared.fault.FormatFault.TheVariants as faults
 use Rattle.cell_names.specs.Spelling.{spell_cell, spell_touch, spell_footprint, IsCell, IsFootprint, StopsAt}
-use Rattle.cell_names.specs.Reading.{Reading, field, then_read, behind_kind, cell, mode, is_above, touch, next_last, footprint, cell_or_later, touch_or_later, touches_or_later, footprint_or_later, told_in, IsTold, Places, IsNotYet, IfNotYet}
+use Rattle.cell_names.specs.Partial.{Reading, field, then_read}
+use Rattle.cell_names.specs.Answers.{told_in, IsTold, Places, IsNotYet, IfNotYet}
+use Rattle.cell_names.specs.Reading.{behind_kind, cell, mode, is_above, touch, next_last, footprint, cell_or_later, touch_or_later, touches_or_later, footprint_or_later}
 use Rattle.cell_names.proofs.Rising.{IsNext, touches_from_next, next_from_touches}
 use Rattle.cell_names.proofs.Grammar.{touch_reads, footprint_reads, cell_reads}
+use Rattle.cell_names.proofs.Forget.{forget, forget-then, forget-field, forget_ok, after-after, ReadsPart}
+use Rattle.cell_names.proofs.PartTold.{places, if_not_yet, is_not_yet}
 
 -- ---- without the difference of faults
-
-abbrev pub forget : {A : Type 0} → Reading A → Read A
-forget (Ok x) = Ok x
-forget (Err stops.NoMemory) = Err 0
-forget (Err (stops.Left n)) = Err n
-forget (Err (stops.NotYet n)) = Err n
-
-forget-then : {A B : Type 0} (r : Reading A) (f : A → List ℕ → Reading B) → forget (then_read r f) ≡ after (forget r) (λ a rest. forget (f a rest))
-forget-then (Ok x) f = refl
-forget-then (Err stops.NoMemory) f = refl
-forget-then (Err (stops.Left n)) f = refl
-forget-then (Err (stops.NotYet n)) f = refl
-
-forget-field : {A : Type 0} (r : Read A) → forget (field r) ≡ r
-forget-field (Ok x) = refl
-forget-field (Err n) = refl
-
-forget_ok : {A : Type 0} (r : Reading A) (x : A × List ℕ) → forget r ≡ Ok x → r ≡ Ok x
-forget_ok {A} (Ok y) x e = let same : ◌≡◌ {A = A × List ℕ} y x = cc in λ i. Ok (same i)
-forget_ok (Err stops.NoMemory) x e = absurd cc
-forget_ok (Err (stops.Left n)) x e = absurd cc
-forget_ok (Err (stops.NotYet n)) x e = absurd cc
 
 forget-behind : (kind : ℕ) (bytes : List ℕ) (one two : Bool) → eqb kind 1 ≡ one → eqb kind 2 ≡ two →
     forget (cond {A = Reading Cell} one (Err (stops.NotYet (suc (length bytes)))) (cond {A = Reading Cell} two (Err (stops.NotYet (suc (length bytes)))) (field (behind_kind kind bytes)))) ≡ behind_kind kind bytes
@@ -70,10 +52,6 @@ touch_then : (last : Option Cell) (bytes : List ℕ) (c : Cell) (rest : List ℕ
 touch_then last bytes c rest true = mode_then c (mode rest)
 touch_then last bytes c rest false = refl
 
-after-after : {A B C : Type 0} (r : Read A) (f : A → List ℕ → Read B) (g : B → List ℕ → Read C) → after r (λ a rest. after (f a rest) g) ≡ after (after r f) g
-after-after (Ok x) f g = refl
-after-after (Err n) f g = refl
-
 pub forget-touch : (last : Option Cell) (bytes : List ℕ) → forget (touch_or_later last bytes) ≡ touch last bytes
 forget-touch last bytes =
     forget-then (cell_or_later bytes) (λ c rest. cond {A = Reading (Cell × Mode)} (is_above last c) (then_read (field (mode rest)) (λ m end. Ok ((c, m), end))) (Err (stops.Left (length bytes))))
@@ -90,6 +68,13 @@ pub forget-footprint : (bytes : List ℕ) → forget (footprint_or_later bytes) 
 forget-footprint bytes =
     forget-then (field (checked (λ n. nat_le n 256) (number w32) bytes)) (λ n rest. touches_or_later None n rest)
     ∙ (λ i. after (forget-field (checked (λ n. nat_le n 256) (number w32) bytes) i) (λ n rest. forget-touches None n rest i))
+
+-- so cells and footprints have the law of readers
+pub reads_cell : ReadsPart cell_or_later spell_cell IsCell
+reads_cell = record { law = subst (λ (read : Reader Cell). Reads read spell_cell IsCell) (λ i bytes. sym (forget-cell bytes) i) cell_reads }
+
+pub reads_footprint : ReadsPart footprint_or_later spell_footprint IsFootprint
+reads_footprint = record { law = subst (λ (read : Reader (List (Cell × Mode))). Reads read spell_footprint IsFootprint) (λ i bytes. sym (forget-footprint bytes) i) footprint_reads }
 
 -- ---- where a kind stands that isn't built
 
@@ -138,21 +123,21 @@ above_later false c rest bytes left e = cc
 touch_by : (last : Option Cell) (bytes : List ℕ) (left : ℕ) (r : Reading Cell) → cell_or_later bytes ≡ r →
     then_read r (λ c rest. cond {A = Reading (Cell × Mode)} (is_above last c) (then_read (field (mode rest)) (λ m end. Ok ((c, m), end))) (Err (stops.Left (length bytes)))) ≡ Err (stops.NotYet left) → KindStands bytes left
 touch_by last bytes left (Ok x) is e = absurd (above_later (is_above last x.0) x.0 x.1 bytes left e)
-touch_by last bytes left (Err s) is e = let same : s ≡ stops.NotYet left = cc in cell_later bytes left (is ∙ ap (λ (s : CellStop). Err s) same)
+touch_by last bytes left (Err s) is e = let same : s ≡ stops.NotYet left = cc in cell_later bytes left (is ∙ ap (λ (s : FormatStop). Err s) same)
 
 touch_later : (last : Option Cell) (bytes : List ℕ) (left : ℕ) → touch_or_later last bytes ≡ Err (stops.NotYet left) → KindStands bytes left
 touch_later last bytes left e = touch_by last bytes left (cell_or_later bytes) refl e
 
 rest_by : (t : Cell × Mode) (left : ℕ) (r : Reading (List (Cell × Mode))) → then_read r (λ ts end. Ok (t ∷ ts, end)) ≡ Err (stops.NotYet left) → r ≡ Err (stops.NotYet left)
 rest_by t left (Ok x) e = absurd cc
-rest_by t left (Err s) e = let same : s ≡ stops.NotYet left = cc in ap (λ (s : CellStop). Err s) same
+rest_by t left (Err s) e = let same : s ≡ stops.NotYet left = cc in ap (λ (s : FormatStop). Err s) same
 
 touches_by : (last : Option Cell) (n : ℕ) (bytes : List ℕ) (left : ℕ) (r : Reading (Cell × Mode)) → IsBytes bytes → touch_or_later last bytes ≡ r →
     then_read r (λ t rest. then_read (touches_or_later (Some t.0) n rest) (λ ts end. Ok (t ∷ ts, end))) ≡ Err (stops.NotYet left) →
     ((t : Cell × Mode) (rest : List ℕ) → IsBytes rest → touches_or_later (Some t.0) n rest ≡ Err (stops.NotYet left) → Later (Some t.0) n rest left) → Later last (suc n) bytes left
 touches_by last n bytes left (Err s) fits is e ih =
     let same : s ≡ stops.NotYet left = cc in
-    let k = touch_later last bytes left (is ∙ ap (λ (s : CellStop). Err s) same) in
+    let k = touch_later last bytes left (is ∙ ap (λ (s : FormatStop). Err s) same) in
     record { before = []; kind = k.kind; behind = k.behind; more = omega arith; along = tt; later = k.later; parts = k.parts; left_is = k.left_is }
 touches_by last n bytes left (Ok (t, rest)) fits is e ih =
     let plain : touch last bytes ≡ Ok (t, rest) = sym (forget-touch last bytes) ∙ ap forget is in
@@ -246,45 +231,9 @@ stop_place bytes at p le s =
     let place : p ≡ at + length front = s.place in
     omega (arith, length-drop at bytes, ap length s.parts, length-append front (s.kind ∷ s.behind))
 
--- ---- what is told
-
-fault_is : {Y : Type 0} (x y : CellFault) → ◌≡◌ {A = Result Y CellFault} (Err x) (Err y) → x ≡ y
-fault_is x y e = cc
-
-pub places : {A : Type 0} (total : ℕ) (r : Result (A × ℕ) CellFault) (read : Reading A) → IsTold r (told_in total read) → Places r (placed total (forget read))
-places {A} total (Ok y) (Ok x) e = let same : ◌≡◌ {A = A × ℕ} (x.0, total - length x.1) y = cc in ap (λ (z : A × ℕ). Ok z) same
-places total (Ok y) (Err s) e = absurd cc
-places total (Err faults.NoMemory) read e = tt
-places total (Err (faults.At p)) (Ok x) e = absurd cc
-places total (Err (faults.At p)) (Err stops.NoMemory) e = absurd cc
-places total (Err (faults.At p)) (Err (stops.Left n)) e = let at : At = record { 0 = total - n } in let same : at ≡ p = cc in ap (λ (q : At). Err q.0) same
-places total (Err (faults.At p)) (Err (stops.NotYet n)) e = absurd cc
-places total (Err (faults.NotYet p)) (Ok x) e = absurd cc
-places total (Err (faults.NotYet p)) (Err stops.NoMemory) e = absurd cc
-places total (Err (faults.NotYet p)) (Err (stops.Left n)) e = absurd cc
-places total (Err (faults.NotYet p)) (Err (stops.NotYet n)) e = let same : total - n ≡ p = cc in ap (λ (q : ℕ). Err q) same
-
-pub if_not_yet : {A : Type 0} (total : ℕ) (r : Result (A × ℕ) CellFault) (read : Reading A) (P : ℕ → Type 0) → IsTold r (told_in total read) → ((n : ℕ) → read ≡ Err (stops.NotYet n) → P (total - n)) → IfNotYet r P
-if_not_yet total (Ok y) read P e h = tt
-if_not_yet total (Err faults.NoMemory) read P e h = tt
-if_not_yet total (Err (faults.At p)) read P e h = tt
-if_not_yet total (Err (faults.NotYet p)) (Ok x) P e h = absurd cc
-if_not_yet total (Err (faults.NotYet p)) (Err stops.NoMemory) P e h = absurd cc
-if_not_yet total (Err (faults.NotYet p)) (Err (stops.Left n)) P e h = absurd cc
-if_not_yet total (Err (faults.NotYet p)) (Err (stops.NotYet n)) P e h = let same : total - n ≡ p = cc in subst P same (h n refl)
-
-pub is_not_yet : {A : Type 0} (total n p : ℕ) (r : Result (A × ℕ) CellFault) (read : Reading A) → IsTold r (told_in total read) → read ≡ Err (stops.NotYet n) → total - n ≡ p → IsNotYet r p
-is_not_yet total n p (Ok y) read e is place = absurd cc
-is_not_yet total n p (Err faults.NoMemory) read e is place = tt
-is_not_yet total n p (Err (faults.At q)) read e is place = absurd cc
-is_not_yet {A} total n p (Err (faults.NotYet q)) read e is place =
-    let told : ◌≡◌ {A = Result (A × ℕ) CellFault} (Err (faults.NotYet (total - n))) (Err (faults.NotYet q)) = sym (ap (told_in total) is) ∙ e in
-    let same : total - n ≡ q = cc in
-    sym same ∙ place
-
 -- ---- the public clauses
 
-found_by : {A : Type 0} {read : Reader A} {spell : A → List ℕ} {Good : A → Type 0} → Reads read spell Good → (bytes : List ℕ) (at : ℕ) → at ≤ length bytes → IsBytes bytes → (r : Result (A × ℕ) CellFault) →
+found_by : {A : Type 0} {read : Reader A} {spell : A → List ℕ} {Good : A → Type 0} → Reads read spell Good → (bytes : List ℕ) (at : ℕ) → at ≤ length bytes → IsBytes bytes → (r : Result (A × ℕ) FormatFault) →
     Places r (placed (length bytes) (read (drop at bytes))) → IfOk r (Spelt spell Good bytes at)
 found_by reads bytes at le fits (Ok y) e = is_found reads bytes at le (Ok y) fits e
 found_by reads bytes at le fits (Err x) e = tt
@@ -293,7 +242,7 @@ read_by : {A : Type 0} {read : Reader A} {spell : A → List ℕ} {Good : A → 
     placed (length bytes) (read (drop at bytes)) ≡ Ok (a, length bytes - length rest)
 read_by {read = read} reads bytes at a rest good e = ap (placed (length bytes)) (ap read e ∙ reads.again a rest good)
 
-module _ (bytes : List ℕ) (at : ℕ) (le : at ≤ length bytes) (fits : IsBytes bytes) (r : Result (List (Cell × Mode) × ℕ) CellFault) (told : IsTold r (told_in (length bytes) (footprint_or_later (drop at bytes)))) where
+module _ (bytes : List ℕ) (at : ℕ) (le : at ≤ length bytes) (fits : IsBytes bytes) (r : Result (List (Cell × Mode) × ℕ) FormatFault) (told : IsTold r (told_in (length bytes) (footprint_or_later (drop at bytes)))) where
   pub footprint_place : Places r (placed (length bytes) (footprint (drop at bytes)))
   footprint_place = subst (λ (read : Read (List (Cell × Mode))). Places r (placed (length bytes) read)) (forget-footprint (drop at bytes)) (places (length bytes) r (footprint_or_later (drop at bytes)) told)
 
@@ -309,7 +258,7 @@ module _ (bytes : List ℕ) (at : ℕ) (le : at ≤ length bytes) (fits : IsByte
   pub footprint_stops_only : (p : ℕ) → StopsAt bytes at p → IsNotYet r p
   footprint_stops_only p s = is_not_yet (length bytes) (suc (length s.behind)) p r (footprint_or_later (drop at bytes)) told (stop_read bytes at p le s) (stop_place bytes at p le s)
 
-module _ (bytes : List ℕ) (at : ℕ) (le : at ≤ length bytes) (fits : IsBytes bytes) (r : Result (Cell × ℕ) CellFault) (told : IsTold r (told_in (length bytes) (cell_or_later (drop at bytes)))) where
+module _ (bytes : List ℕ) (at : ℕ) (le : at ≤ length bytes) (fits : IsBytes bytes) (r : Result (Cell × ℕ) FormatFault) (told : IsTold r (told_in (length bytes) (cell_or_later (drop at bytes)))) where
   pub cell_place : Places r (placed (length bytes) (cell (drop at bytes)))
   cell_place = subst (λ (read : Read Cell). Places r (placed (length bytes) read)) (forget-cell (drop at bytes)) (places (length bytes) r (cell_or_later (drop at bytes)) told)
 

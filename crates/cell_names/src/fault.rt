@@ -2,7 +2,7 @@
 
 ghost use Rattle.std.specs.Prelude.{◌≡◌};
 ghost use Rattle.byte_fields.specs.declared.fault.ReadStop.{ReadStop};
-ghost use Rattle.cell_names.specs.declared.fault.CellStop.TheVariants.{NoMemory};
+ghost use Rattle.cell_names.specs.declared.fault.FormatStop.TheVariants.{NoMemory};
 ghost use Rattle.cell_names.specs.Stops.{stop_of, fault_of};
 
 use byte_fields::{At, ReadStop};
@@ -10,7 +10,7 @@ use std::alloc::{AllocError, AllocFailed};
 
 /// Why reading stopped, inside a format.
 #[derive(Clone, Copy, Debug, PartialEq, Eq)]
-pub enum CellStop {
+pub enum FormatStop {
     /// Memory ran out.
     NoMemory,
     /// A field misses bytes or breaks its rule: so many bytes are left at its first byte.
@@ -19,36 +19,36 @@ pub enum CellStop {
     NotYet(usize),
 }
 
-impl From<ReadStop> for CellStop {
+impl From<ReadStop> for FormatStop {
     ghost from_gives = { λ stop e. e ≡ stop_of stop };
 
-    fn from(stop: ReadStop) -> CellStop {
+    fn from(stop: ReadStop) -> FormatStop {
         match stop {
-            ReadStop::NoMemory => CellStop::NoMemory,
-            ReadStop::Left(left) => CellStop::Left(left),
+            ReadStop::NoMemory => FormatStop::NoMemory,
+            ReadStop::Left(left) => FormatStop::Left(left),
         }
     }
 }
 
-impl From<AllocError> for CellStop {
+impl From<AllocError> for FormatStop {
     ghost from_gives = { λ _ e. e ≡ NoMemory };
 
-    fn from(_e: AllocError) -> CellStop {
-        CellStop::NoMemory
+    fn from(_e: AllocError) -> FormatStop {
+        FormatStop::NoMemory
     }
 }
 
-impl<T: Drop> From<AllocFailed<T>> for CellStop {
+impl<T: Drop> From<AllocFailed<T>> for FormatStop {
     ghost from_gives = { λ _ e. e ≡ NoMemory };
 
-    fn from(_e: AllocFailed<T>) -> CellStop {
-        CellStop::NoMemory
+    fn from(_e: AllocFailed<T>) -> FormatStop {
+        FormatStop::NoMemory
     }
 }
 
 /// Why bytes could not be read.
 #[derive(Clone, Copy, Debug, PartialEq, Eq)]
-pub enum CellFault {
+pub enum FormatFault {
     /// The first byte of the first field that misses bytes or breaks its rule.
     At(At),
     /// The first byte of a cell of a kind that isn't built yet; all before it keeps the rules.
@@ -58,12 +58,12 @@ pub enum CellFault {
 }
 
 /// What a stop means in so many bytes.
-pub fn fault_at(total: usize, stop: CellStop) -> CellFault
+pub fn fault_at(total: usize, stop: FormatStop) -> FormatFault
     ensures { result ≡ fault_of total stop }
 {
     match stop {
-        CellStop::NoMemory => CellFault::NoMemory,
-        CellStop::Left(left) => CellFault::At(At(total.saturating_sub(left))),
-        CellStop::NotYet(left) => CellFault::NotYet(total.saturating_sub(left)),
+        FormatStop::NoMemory => FormatFault::NoMemory,
+        FormatStop::Left(left) => FormatFault::At(At(total.saturating_sub(left))),
+        FormatStop::NotYet(left) => FormatFault::NotYet(total.saturating_sub(left)),
     }
 }

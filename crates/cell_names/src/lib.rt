@@ -8,7 +8,8 @@
 //! - `cell`: what can be touched, and the order of cells.
 //! - `footprint`: a map from cells to modes, in the order of cells.
 //! - `writer`, `reader`: the bytes of cells and footprints, one spelling each.
-//! - `fault`: why bytes are no footprint.
+//! - `fault`: why bytes are no footprint; formats above answer by it too.
+//! - `head`: the level and the time of a state or a block.
 //!
 //! Contracts see a footprint as the list of its cells and modes. Its type keeps that the cells
 //! strictly ascend, so it is a finite map too.
@@ -20,13 +21,15 @@
 mod cell;
 mod fault;
 mod footprint;
+mod head;
 mod mode;
 mod reader;
 mod writer;
 
 pub use cell::{Cell, NoMemory, order, order_is_total};
-pub use fault::{CellFault, CellStop, fault_at};
+pub use fault::{FormatFault, FormatStop, fault_at};
 pub use footprint::Footprint;
+pub use head::Head;
 pub use mode::{Mode, conflict, join};
 pub use reader::{cell_at, footprint_at, read_cell, read_footprint};
 pub use writer::{write_cell, write_footprint};

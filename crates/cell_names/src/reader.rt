@@ -7,29 +7,31 @@ ghost use Rattle.byte_fields.specs.Told.{Gives, placed};
 ghost use Rattle.cell_names.specs.declared.cell.Cell.{Cell};
 ghost use Rattle.cell_names.specs.declared.mode.Mode.{Mode};
 ghost use Rattle.cell_names.specs.Spelling.{spell_cell, spell_footprint, IsCell, IsFootprint, IsLaterKind, StopsAt};
-ghost use Rattle.cell_names.specs.Reading.{address, mode, cell, footprint, is_above, cell_or_later, touch_or_later, touches_or_later, footprint_or_later, Answers, last_cell, told_in, IsTold, Places, IsNotYet, IfNotYet};
+ghost use Rattle.value_codec.specs.Reading.{address};
+ghost use Rattle.cell_names.specs.Answers.{Answers, told_in, IsTold, Places, IsNotYet, IfNotYet};
+ghost use Rattle.cell_names.specs.Reading.{mode, cell, footprint, is_above, cell_or_later, touch_or_later, touches_or_later, footprint_or_later, last_cell};
 
 use crate::cell::{Cell, order};
-use crate::fault::{CellFault, CellStop, fault_at};
+use crate::fault::{FormatFault, FormatStop, fault_at};
 use crate::footprint::Footprint;
 use crate::mode::Mode;
-use byte_fields::{ReadStop, run_at, u32_at};
+use byte_fields::{ReadStop, u32_at};
 use std::alloc::Global;
-use value_core::Address;
+use value_codec::address_at;
 
 /// A footprint at the front of the bytes, and the bytes after it.
-pub fn footprint_at(alloc: Global, bytes: &[u8]) -> Result<(Footprint, &[u8]), CellStop>
+pub fn footprint_at(alloc: Global, bytes: &[u8]) -> Result<(Footprint, &[u8]), FormatStop>
     ensures { Answers (λ x. (x.0, x.1.now)) result (footprint_or_later bytes.now) }
 {
     let (count, rest) = u32_at(bytes)?;
     if count > 256 {
-        return Err(CellStop::Left(bytes.len()));
+        return Err(FormatStop::Left(bytes.len()));
     }
     touches_at(alloc, count, rest)
 }
 
 /// So many touches, ascending.
-fn touches_at(alloc: Global, count: u32, bytes: &[u8]) -> Result<(Footprint, &[u8]), CellStop>
+fn touches_at(alloc: Global, count: u32, bytes: &[u8]) -> Result<(Footprint, &[u8]), FormatStop>
     ensures { Answers (λ x. (x.0, x.1.now)) result (touches_or_later None count bytes.now) }
 {
     let mut touches: Vec<(Cell, Mode)> = Vec::new(alloc);
@@ -55,13 +57,16 @@ fn last_of(touches: &[(Cell, Mode)]) -> Option<&Cell>
     }
 }
 
-fn touch_at<'a>(last: Option<&Cell>, bytes: &'a [u8]) -> Result<((Cell, Mode), &'a [u8]), CellStop>
+fn touch_at<'a>(
+    last: Option<&Cell>,
+    bytes: &'a [u8],
+) -> Result<((Cell, Mode), &'a [u8]), FormatStop>
     ensures { Answers (λ x. (x.0, x.1.now)) result (touch_or_later (option_copied last.entry) bytes.now) }
 {
     match cell_at(bytes) {
         Ok((cell, rest)) => {
             if !stands_above(last, &cell) {
-                return Err(CellStop::Left(bytes.len()));
+                return Err(FormatStop::Left(bytes.len()));
             }
             let (mode, rest) = mode_at(rest)?;
             Ok(((cell, mode), rest))
@@ -80,29 +85,19 @@ fn stands_above(last: Option<&Cell>, cell: &Cell) -> bool
 }
 
 /// A cell at the front of the bytes, and the bytes after it.
-pub fn cell_at(bytes: &[u8]) -> Result<(Cell, &[u8]), CellStop>
+pub fn cell_at(bytes: &[u8]) -> Result<(Cell, &[u8]), FormatStop>
     ensures { Answers (λ x. (x.0, x.1.now)) result (cell_or_later bytes.now) }
 {
     let Some((kind, rest)) = bytes.split_first() else {
-        return Err(CellStop::Left(0));
+        return Err(FormatStop::Left(0));
     };
     match *kind {
         0 => match address_at(rest) {
             Ok((address, rest)) => Ok((Cell::Balance(address), rest)),
-            Err(stop) => Err(CellStop::from(stop)),
+            Err(stop) => Err(FormatStop::from(stop)),
         },
-        1 | 2 => Err(CellStop::NotYet(bytes.len())),
-        _ => Err(CellStop::Left(bytes.len())),
-    }
-}
-
-fn address_at(bytes: &[u8]) -> Result<(Address, &[u8]), ReadStop>
-    ensures { Gives (λ x. (x.0, x.1.now)) result (address bytes.now) }
-{
-    let (front, rest) = run_at(22, bytes)?;
-    match Address::from_bytes(front) {
-        Ok(address) => Ok((address, rest)),
-        Err(_) => Err(ReadStop::Left(bytes.len())),
+        1 | 2 => Err(FormatStop::NotYet(bytes.len())),
+        _ => Err(FormatStop::Left(bytes.len())),
     }
 }
 
@@ -121,7 +116,7 @@ fn mode_at(bytes: &[u8]) -> Result<(Mode, &[u8]), ReadStop>
 }
 
 /// The footprint that is spelt at the place, and the place after it.
-pub fn read_footprint(alloc: Global, b: &[u8], at: usize) -> Result<(Footprint, usize), CellFault>
+pub fn read_footprint(alloc: Global, b: &[u8], at: usize) -> Result<(Footprint, usize), FormatFault>
     requires { at ≤ length b.now }
 
     // What is read is spelt there, and what is spelt there is read.
@@ -136,7 +131,7 @@ pub fn read_footprint(alloc: Global, b: &[u8], at: usize) -> Result<(Footprint, 
     footprint_told(alloc, b, at)
 }
 
-fn footprint_told(alloc: Global, b: &[u8], at: usize) -> Result<(Footprint, usize), CellFault>
+fn footprint_told(alloc: Global, b: &[u8], at: usize) -> Result<(Footprint, usize), FormatFault>
     requires { at ≤ length b.now }
     ensures { IsTold result (told_in (length b.now) (footprint_or_later (drop at b.now))) }
 {
@@ -147,7 +142,7 @@ fn footprint_told(alloc: Global, b: &[u8], at: usize) -> Result<(Footprint, usiz
 }
 
 /// The cell that is spelt at the place, and the place after it.
-pub fn read_cell(b: &[u8], at: usize) -> Result<(Cell, usize), CellFault>
+pub fn read_cell(b: &[u8], at: usize) -> Result<(Cell, usize), FormatFault>
     requires { at ≤ length b.now }
 
     // What is read is spelt there, and what is spelt there is read.
@@ -162,7 +157,7 @@ pub fn read_cell(b: &[u8], at: usize) -> Result<(Cell, usize), CellFault>
     cell_told(b, at)
 }
 
-fn cell_told(b: &[u8], at: usize) -> Result<(Cell, usize), CellFault>
+fn cell_told(b: &[u8], at: usize) -> Result<(Cell, usize), FormatFault>
     requires { at ≤ length b.now }
     ensures { IsTold result (told_in (length b.now) (cell_or_later (drop at b.now))) }
 {

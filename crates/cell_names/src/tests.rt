@@ -1,6 +1,6 @@
 use crate::{
-    Cell, CellFault, Footprint, Mode, conflict, join, order, read_cell, read_footprint, write_cell,
-    write_footprint,
+    Cell, Footprint, FormatFault, Mode, conflict, join, order, read_cell, read_footprint,
+    write_cell, write_footprint,
 };
 use byte_fields::At;
 use std::alloc::Global;
@@ -96,12 +96,12 @@ fn each_fault_is_told_at_its_field(rt: HostRuntime) {
         assert!(rt; fault.0 < 52);
         bytes[fault.0] = fault.1;
         let told = read_footprint(rt.alloc(), &bytes, 0).err();
-        assert!(rt; told == Some(CellFault::At(At(fault.2))));
+        assert!(rt; told == Some(FormatFault::At(At(fault.2))));
     }
     for kind in [1, 2] {
         let mut bytes = transfer();
         bytes[28] = kind;
         let told = read_footprint(rt.alloc(), &bytes, 0).err();
-        assert!(rt; told == Some(CellFault::NotYet(28)));
+        assert!(rt; told == Some(FormatFault::NotYet(28)));
     }
 }

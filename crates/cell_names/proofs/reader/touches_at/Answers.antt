@@ -3,15 +3,17 @@ use Rattle.std.proofs.Common.{◌≡◌, ◌∷◌, ◌++◌, [], List, ℕ, Ok,
 use Rattle.std.specs.Prelude.{IsTrue}
 use Rattle.cell_names.specs.declared.cell.Cell.{Cell}
 use Rattle.cell_names.specs.declared.mode.Mode.{Mode}
-use Rattle.cell_names.specs.declared.fault.CellStop.{CellStop}
+use Rattle.cell_names.specs.declared.fault.FormatStop.{FormatStop}
 use Rattle.cell_names.specs.Footprints.{ascends}
-use Rattle.cell_names.specs.Reading.{Reading, Stops, touch_or_later, touches_or_later, last_cell}
+use Rattle.cell_names.specs.Partial.{Reading}
+use Rattle.cell_names.specs.Answers.{Stops}
+use Rattle.cell_names.specs.Reading.{touch_or_later, touches_or_later, last_cell}
 use Rattle.cell_names.proofs.Later.{with_front, goes_on, ends, read_is_above}
 use Rattle.cell_names.proofs.Rising.{ascends-push}
 use Rattle.cell_names.proofs.reader.touches_at.Goals as goal
 use Rattle.std.proofs.Common.{◌<◌, ◌-◌, ◌+◌}
 
-stopped : (front slice : List (Cell × Mode)) (last : Option Cell) (count i : ℕ) (bytes : List ℕ) (total : Reading (List (Cell × Mode))) (e : CellStop) → slice ≡ front → last ≡ last_cell slice →
+stopped : (front slice : List (Cell × Mode)) (last : Option Cell) (count i : ℕ) (bytes : List ℕ) (total : Reading (List (Cell × Mode))) (e : FormatStop) → slice ≡ front → last ≡ last_cell slice →
     with_front front (touches_or_later (last_cell front) (count - i) bytes) ≡ total → i < count → Stops e (touch_or_later last bytes) → Stops e total
 stopped front slice last count i bytes total e same is so_far lt at =
     ends front count i bytes total so_far e lt (subst (λ (o : Option Cell). Stops e (touch_or_later o bytes)) (is ∙ ap last_cell same) at)

@@ -1,0 +1,8 @@
+//! The head of a state or a block.
+
+/// The level, which is the number of blocks before, and the time in seconds.
+#[derive(Clone, Copy, Debug, PartialEq, Eq)]
+pub struct Head {
+    pub level: u32,
+    pub now: u64,
+}
