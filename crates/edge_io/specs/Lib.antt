@@ -5,5 +5,6 @@ pub mod Outside
 pub mod Shelf
 pub mod Buffer
 pub mod Adapters
+pub mod Cursors
 -- what functions inside promise each other
 pub mod Slots

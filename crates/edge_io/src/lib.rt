@@ -11,6 +11,7 @@
 //! - `memory_files`, `memory_sink`: `MemFiles` and `MemSink`, which tell all and fail on demand.
 //! - `disk`, `output`: `DiskFiles` and `StdSink`, thin adapters that tell no contents.
 //! - `workers`: how many workers there are, from 1 to 64.
+//! - `cursor`: `Cursor`, which takes fields from the front of bytes.
 //! - `slot`, `slots`: one name of `MemFiles`, and the list of them. `calls`: which calls fail.
 //!
 //! The clauses are the relations of `specs/Outside.antt`: `Reads`, `MakesRoom`, `Writes` and
@@ -20,6 +21,7 @@
 #![tactic(auto)]
 
 mod calls;
+mod cursor;
 mod disk;
 mod files;
 mod gate;
@@ -33,6 +35,7 @@ mod slots;
 mod tests;
 mod workers;
 
+pub use cursor::Cursor;
 pub use disk::DiskFiles;
 pub use files::{Failed, Files, NoMemory, ReadEnd};
 pub use gate::{Gate, OpenGate};

@@ -1,6 +1,7 @@
 //! Each public call once with ample memory, and the disk and a writer as they are.
 use crate::{
-    DiskFiles, Failed, Files, Gate, MemFiles, MemSink, OpenGate, ReadEnd, Sink, StdSink, Workers,
+    Cursor, DiskFiles, Failed, Files, Gate, MemFiles, MemSink, OpenGate, ReadEnd, Sink, StdSink,
+    Workers,
 };
 use std::fs;
 use std::test::Fail;
@@ -111,4 +112,17 @@ fn workers_are_1_to_64(rt: HostRuntime) -> Result<(), Fail> {
     }
     OpenGate.at(0, 0);
     Ok(())
+}
+
+#[test]
+fn a_cursor_takes_fields_from_the_front(rt: HostRuntime) {
+    let mut cursor = Cursor::new(&[1, 0, 0, 1, 2, 0, 0, 0, 0, 0, 0, 0, 3, 9]);
+    assert_eq!(rt; cursor.take_u8(), Some(1));
+    assert_eq!(rt; cursor.take_u32(), Some(258));
+    assert_eq!(rt; cursor.take_u64(), Some(3));
+    assert!(rt; cursor.take_bytes(2).is_none());
+    assert_eq!(rt; cursor.at(), 13);
+    assert!(rt; cursor.take_bytes(1) == Some([9].as_slice()));
+    assert_eq!(rt; cursor.take_u8(), None);
+    assert_eq!(rt; cursor.at(), 14);
 }
