@@ -4,9 +4,10 @@ use Rattle.std.specs.Prelude.{IfSome, IsSomeAnd, codes}
 use Rattle.std.specs.FinMap.{get}
 use Rattle.edge_io.specs.Outside.{Held, Rose, GoesOn}
 use Rattle.block_cli.specs.Words.{Validation}
-use Rattle.block_cli.specs.Meaning.{Found, Absent, Long, Bytes, found, Answer, judged, bad_input, held_after}
+use Rattle.block_cli.specs.Meaning.{Found, Absent, Long, Bytes, found, Answer, IsJudged, bad_input, held_after}
 use Rattle.block_cli.specs.Seen.{Seen, SameFiles}
-use Rattle.block_cli.specs.Runs.{Validates, Means}
+use Rattle.block_cli.specs.Causes.{Means}
+use Rattle.block_cli.specs.Runs.{Validates}
 use Rattle.block_cli.specs.Inside.{Shows, Ends}
 use Rattle.block_cli.specs.declared.status.Status.{Status}
 use Rattle.block_cli.specs.declared.status.Status.TheVariants.{Done, Refused, Usage, ReadFault, WriteFault, NoMemory, BadInput}
@@ -38,9 +39,9 @@ block_long c old new state s b rose =
     record { state = Bytes state; block = Long; told = both_show old.files.told c (Bytes state) Long s b; counted = rose; meant = refl }
 
 -- both files were read, and their bytes were judged
-pub both_read : (c : Validation) (old new : Seen) (state block : List ℕ) → Shows old.files c.state (Bytes state) → Shows old.files c.block (Bytes block) → Means c (judged c state block) old new
-both_read c old new state block s b =
-    record { state = Bytes state; block = Bytes block; told = both_show old.files.told c (Bytes state) (Bytes block) s b; counted = tt; meant = refl }
+pub both_read : (c : Validation) (old new : Seen) (state block : List ℕ) (answer : Answer) → Shows old.files c.state (Bytes state) → Shows old.files c.block (Bytes block) → IsJudged c state block answer → Means c answer old new
+both_read c old new state block answer s b meant =
+    record { state = Bytes state; block = Bytes block; told = both_show old.files.told c (Bytes state) (Bytes block) s b; counted = tt; meant = meant }
 
 -- the files that were read before this call count as well
 earlier : (a b c : ℕ) → a ≤ b → Rose b c → Rose a c

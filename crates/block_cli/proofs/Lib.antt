@@ -1,3 +1,6 @@
 mod Printing
 mod Sizes
 mod Ending
+mod OneVerdict
+mod Replaying
+mod Disorder

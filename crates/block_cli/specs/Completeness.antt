@@ -4,9 +4,9 @@ use Rattle.std.specs.FinMap.{get}
 use Rattle.edge_io.specs.Outside.{Held, Outside, Rose, most_bytes}
 use Rattle.ledger_state.specs.Ledger.{Ledger}
 use Rattle.ledger_state.specs.Spelling.{spelling}
-use Rattle.ledger_state.specs.Place.{ledger_of}
+use Rattle.ledger_state.specs.Reading.{ledger_of}
 use Rattle.block_cli.specs.Words.{Validation, command_of}
-use Rattle.block_cli.specs.Verdict.{Verdict, OtherForm, Differs, Accepted, verdict}
+use Rattle.block_cli.specs.Verdict.{Verdict, Malformed, NotYet, WrongParent, BadJoin, Unordered, FootprintDiffers, ReceiptDiffers, StateDiffers, Accepted, IsVerdict}
 use Rattle.block_cli.specs.Seen.{Seen}
 use Rattle.block_cli.specs.declared.status.Status.{Status}
 use Rattle.block_cli.specs.declared.status.Status.TheVariants.{Done, Refused, NoMemory}
@@ -29,11 +29,18 @@ pub record IsSound (c : Validation) (held : Held) (s : Ledger) (bytes : List ℕ
   pub state : IsSomeAnd (get held c.state) (λ spelt. (length spelt ≤ most_bytes) × (ledger_of spelt ≡ Ok s))
   pub block : get held c.block ≡ Some bytes
   pub short : length bytes ≤ most_bytes
-  pub next : (after : Ledger) → verdict s bytes ≡ Accepted after → length (spelling after) ≤ most_bytes
+  pub next : (after : Ledger) → IsVerdict s bytes (Accepted after) → length (spelling after) ≤ most_bytes
 
+-- Refused unless the block is accepted
 abbrev pub status_of : Verdict → Status
-status_of OtherForm = Refused
-status_of Differs = Refused
+status_of (Malformed p) = Refused
+status_of (NotYet p) = Refused
+status_of WrongParent = Refused
+status_of (BadJoin j) = Refused
+status_of (Unordered i j c) = Refused
+status_of (FootprintDiffers i) = Refused
+status_of (ReceiptDiffers i) = Refused
+status_of StateDiffers = Refused
 status_of (Accepted after) = Done
 
 -- Where the words are a command, nothing is wrong with its files, and no count rises, the verdict decides, want of memory aside.
@@ -41,4 +48,4 @@ abbrev pub Completes : List (List ℕ) → Seen → Status → Seen → Type 0
 Completes words old status new =
     (c : Validation) (held : Held) (s : Ledger) (bytes : List ℕ) →
     command_of words ≡ Some c → old.files.told ≡ Some held → IsSound c held s bytes → AllQuiet c old new →
-    (status ≡ NoMemory) ⊎ (status ≡ status_of (verdict s bytes))
+    (status ≡ NoMemory) ⊎ ((v : Verdict) × IsVerdict s bytes v × (status ≡ status_of v))

@@ -1,41 +1,22 @@
--- What functions inside promise each other: a command without its place in memory, what was read, and what came of it.
-use Rattle.std.specs.Prelude.{◌≡◌, ℕ, List, length, codes, IfSome, IsSomeAnd, Result, Ok, Err, ◌⊎◌, ◌≤◌, OnOk, OnErr}
+-- What functions inside promise each other of files and the sink: what was read, and what is done with an answer.
+use Rattle.std.specs.Prelude.{◌≡◌, ℕ, List, length, IfSome, IsSomeAnd, Result, Ok, Err, ◌⊎◌, ◌≤◌, OnOk, OnErr}
 use Rattle.std.specs.Global.{Vec}
 use Rattle.std.specs.FinMap.{get}
 use Rattle.edge_io.specs.Outside.{Outside, Rose, Taken, Takes, most_bytes}
 use Rattle.block_cli.specs.Words.{Validation}
 use Rattle.block_cli.specs.declared.words.Validation.{Validation as Words}
 use Rattle.block_cli.specs.Report.{cannot_write_line}
-use Rattle.block_cli.specs.Verdict.{Verdict, OtherForm, Differs, Accepted}
-use Rattle.block_cli.specs.declared.verdict.Judgment.{Judgment}
-use Rattle.block_cli.specs.declared.verdict.Judgment.TheVariants as judgments
-use Rattle.block_cli.specs.Meaning.{Found, Long, Bytes, found, Answer, bad_input, refused, done}
+use Rattle.block_cli.specs.Meaning.{Found, Long, Bytes, found, Answer}
 use Rattle.block_cli.specs.Seen.{Seen, SameFiles, Written, OthersSame, Prints, PrintsAll}
 use Rattle.block_cli.specs.Runs.{GivesUp}
 use Rattle.block_cli.specs.declared.status.Status.{Status}
 use Rattle.block_cli.specs.declared.status.Status.TheVariants as statuses
-use Rattle.block_cli.specs.declared.validate.Judged.{Judged}
-use Rattle.block_cli.specs.declared.validate.Judged.TheVariants as came
 use Rattle.block_cli.specs.declared.validate.Stop.{Stop}
 use Rattle.block_cli.specs.declared.validate.Stop.TheVariants as stops
 
 -- the words of a command
 abbrev pub view : Words → Validation
 view w = record { state = w.state.now; block = w.block.now; next = w.next.now }
-
--- a verdict, without where its state lies and without that state's digest
-abbrev pub verdict_in : Judgment → Verdict
-verdict_in judgments.OtherForm = OtherForm
-verdict_in judgments.Differs = Differs
-verdict_in (judgments.Accepted next) = Accepted next.state
-
--- the answer that came of what was read
-abbrev pub answer_in : Validation → Judged → Answer
-answer_in c came.StateOtherForm = bad_input c.state (codes "OtherForm")
-answer_in c came.OtherForm = refused (codes "OtherForm")
-answer_in c came.Differs = refused (codes "Differs")
-answer_in c came.NextTooLong = bad_input c.next (codes "TooLong")
-answer_in c (came.Accepted text next) = done c text.items next.items
 
 -- told contents show a file so
 abbrev pub Shows : Outside → List ℕ → Found → Type 0

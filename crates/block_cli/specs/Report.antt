@@ -2,6 +2,8 @@
 use Rattle.std.specs.Prelude.{ℕ, List, [], ◌∷◌, ◌++◌, codes}
 use Rattle.std.specs.Fmt.{decimal}
 use Rattle.hex.specs.Hex.{encode_lower}
+use Rattle.cell_names.specs.declared.cell.Cell.{Cell}
+use Rattle.cell_names.specs.declared.cell.Cell.TheVariants.{Balance}
 use Rattle.ledger_state.specs.Ledger.{Ledger}
 use Rattle.state_digest.specs.Digest.{digest_of}
 
@@ -25,9 +27,38 @@ memory_line = line (codes "out of memory")
 abbrev pub bad_input_line : List ℕ → List ℕ → List ℕ
 bad_input_line name why = line (name ++ codes ": " ++ why)
 
+-- why a block is refused
 abbrev pub refused_line : List ℕ → List ℕ
 refused_line why = line (codes "refused: " ++ why)
 
 -- the level and the digest of the state after the block
 abbrev pub accepted_line : Ledger → List ℕ
 accepted_line s = line (codes "accepted, level " ++ decimal s.level ++ codes ", state " ++ encode_lower (digest_of s.balances))
+
+-- ---- what stands in a line of a bad file or a refused block
+
+-- where bytes break their format, or hold what isn't built yet
+abbrev pub malformed : ℕ → List ℕ
+malformed p = codes "Malformed at " ++ decimal p
+
+abbrev pub not_yet : ℕ → List ℕ
+not_yet p = codes "NotYet at " ++ decimal p
+
+-- the operation with the first bad list of joins
+abbrev pub bad_join : ℕ → List ℕ
+bad_join j = codes "BadJoin " ++ decimal j
+
+-- the balance of an account
+abbrev pub cell_text : Cell → List ℕ
+cell_text (Balance address) = codes "balance 0x" ++ encode_lower address
+
+-- two operations that conflict without an order, and the cell
+abbrev pub unordered : ℕ → ℕ → Cell → List ℕ
+unordered i j c = codes "Unordered " ++ decimal i ++ codes " " ++ decimal j ++ codes " " ++ cell_text c
+
+-- the first operation of which something else is published than its run leaves
+abbrev pub footprint_differs : ℕ → List ℕ
+footprint_differs i = codes "FootprintDiffers " ++ decimal i
+
+abbrev pub receipt_differs : ℕ → List ℕ
+receipt_differs i = codes "ReceiptDiffers " ++ decimal i

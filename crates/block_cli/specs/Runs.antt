@@ -4,30 +4,11 @@ use Rattle.std.specs.FinMap.{get}
 use Rattle.edge_io.specs.Outside.{Rose, most_bytes}
 use Rattle.block_cli.specs.Words.{Validation, command_of}
 use Rattle.block_cli.specs.Report.{usage_line, cannot_read_line, cannot_write_line, memory_line}
-use Rattle.block_cli.specs.Meaning.{Found, Absent, Long, Bytes, found, Answer, answer_to}
+use Rattle.block_cli.specs.Meaning.{Answer}
+use Rattle.block_cli.specs.Causes.{Means}
 use Rattle.block_cli.specs.Seen.{Seen, SameFiles, Written, OthersSame, Prints, PrintsAll}
 use Rattle.block_cli.specs.declared.status.Status.{Status}
 use Rattle.block_cli.specs.declared.status.Status.TheVariants.{Done, Refused, Usage, ReadFault, WriteFault, NoMemory, BadInput}
-
--- ---- why an answer
-
--- a file that was too long to be read raised its count
-abbrev pub LongIsCounted : Validation → Found → Found → Seen → Seen → Type 0
-LongIsCounted c Absent block old new = Unit {0}
-LongIsCounted c Long block old new = Rose (old.files.long_reads c.state) (new.files.long_reads c.state)
-LongIsCounted c (Bytes state) Absent old new = Unit {0}
-LongIsCounted c (Bytes state) Long old new = Rose (old.files.long_reads c.block) (new.files.long_reads c.block)
-LongIsCounted c (Bytes state) (Bytes block) old new = Unit {0}
-
--- the answer is that to what was read, and where contents are told these were read
-pub record Means (c : Validation) (answer : Answer) (old new : Seen) : Type 0 where
-  pub state : Found
-  pub block : Found
-  pub told : IfSome old.files.told (λ held. (state ≡ found (get held c.state)) × (block ≡ found (get held c.block)))
-  pub counted : LongIsCounted c state block old new
-  pub meant : answer_to c state block ≡ Some answer
-
--- ---- by the status
 
 -- 0: the answer is written and printed
 pub record Finishes (c : Validation) (old new : Seen) : Type 0 where

@@ -1,56 +1,82 @@
--- The verdict on a block, by the state that it stands on.
-use Rattle.std.specs.Prelude.{ℕ, ◌+◌, Bool, true, false, not, ◌&&◌, ◌==◌, nat_le, List, Option, Some, None, Result, Ok, Err, if◌then◌else◌}
-use Rattle.std.specs.Str.{bytes_eq}
-use Rattle.ledger_state.specs.Ledger.{Ledger, Balances}
-use Rattle.block_codec.specs.declared.transfer.Receipt.{Receipt}
-use Rattle.block_codec.specs.Block.{BlockView, Entry}
-use Rattle.block_codec.specs.Place.{block_of}
+-- The verdict on a block, by the state that it stands on: the first line of the table that holds.
+use Rattle.std.specs.Prelude.{◌≡◌, ◌≢◌, ℕ, ◌+◌, ◌<◌, ◌≤◌, List, length, Result, Ok, Err, slice_get}
+use Rattle.cell_names.specs.declared.cell.Cell.{Cell}
+use Rattle.cell_names.specs.declared.fault.FormatFault.{FormatFault}
+use Rattle.cell_names.specs.declared.fault.FormatFault.TheVariants as faults
+use Rattle.ledger_state.specs.Ledger.{Ledger}
+use Rattle.block_codec.specs.Block.{BlockView}
+use Rattle.block_codec.specs.Reading.{block_of}
+use Rattle.join_schedule.specs.Joins.{AreJoins, IsFirstBad}
+use Rattle.join_schedule.specs.Cover.{Cover, IsFirstUnordered}
 use Rattle.state_digest.specs.Digest.{digest_of}
-use Rattle.plain_transfers.specs.Serial.{Ran, serial}
-use Rattle.plain_transfers.specs.Touches.{lists}
+use Rattle.plain_transfers.specs.Run.{Run, run_all}
 
--- refused as no block of the first form, or as telling something else than its serial run; or accepted with the next state
+-- what a block is worth on a state
 pub data Verdict : Type 0 where
-  OtherForm : Verdict
-  Differs : Verdict
+  Malformed : ℕ → Verdict
+  NotYet : ℕ → Verdict
+  WrongParent : Verdict
+  BadJoin : ℕ → Verdict
+  Unordered : ℕ → ℕ → Cell → Verdict
+  FootprintDiffers : ℕ → Verdict
+  ReceiptDiffers : ℕ → Verdict
+  StateDiffers : Verdict
   Accepted : Ledger → Verdict
 
--- the block stands on the state: its parent is the state's digest, its level the next one, its time not before
-abbrev pub stands_on : Ledger → BlockView → Bool
-stands_on s b = bytes_eq b.parent (digest_of s.balances) && (b.level == s.level + 1) && nat_le s.now b.now
+-- its parent is the state's digest, its level the next one, its time not before the state's
+pub record StandsOn (s : Ledger) (b : BlockView) : Type 0 where
+  pub parent : b.parent ≡ digest_of s.balances
+  pub level : b.level ≡ s.level + 1
+  pub now : s.now ≤ b.now
 
-abbrev pub same_bool : Bool → Bool → Bool
-same_bool true b = b
-same_bool false b = not b
+-- it stands on the state, no join list is bad, and the joins cover the conflicts
+pub record IsOrdered (s : Ledger) (b : BlockView) : Type 0 where
+  pub stands : StandsOn s b
+  pub joins : AreJoins b.joins
+  pub covered : Cover b.joins b.footprints
 
-abbrev pub same_receipt : Receipt → Receipt → Bool
-same_receipt a b = same_bool a.applied b.applied && (a.gas == b.gas)
+-- what its operations leave, run one by one
+abbrev pub serial_run : Ledger → BlockView → Run
+serial_run s b = run_all s.balances b.ops
 
--- what is published of a transfer is what its serial run leaves, footprint and receipt
-abbrev pub tells : Entry → Ran → Bool
-tells e ran = lists e.footprint ran.footprint && same_receipt e.receipt ran.receipt
+-- of operation i the footprint, or the receipt, that is published is the serial run's
+abbrev pub SameFootprint : Ledger → BlockView → ℕ → Type 0
+SameFootprint s b i = slice_get b.footprints i ≡ slice_get (serial_run s b).footprints i
 
-abbrev pub tells_run : Balances → Option Entry → Bool
-tells_run m None = true
-tells_run m (Some e) = tells e (serial m e.op)
+abbrev pub SameReceipt : Ledger → BlockView → ℕ → Type 0
+SameReceipt s b i = slice_get b.receipts i ≡ slice_get (serial_run s b).receipts i
 
--- the balances after the serial run
-abbrev pub balances_after : Balances → Option Entry → Balances
-balances_after m None = m
-balances_after m (Some e) = (serial m e.op).balances
+-- both are, of each of the first n operations
+abbrev pub TellsFirst : ℕ → Ledger → BlockView → Type 0
+TellsFirst n s b = (i : ℕ) → i < n → SameFootprint s b i × SameReceipt s b i
 
 -- the serial state, with the block's head
 abbrev pub state_after : Ledger → BlockView → Ledger
-state_after s b = record { level = b.level; now = b.now; balances = balances_after s.balances b.entry }
+state_after s b = record { level = b.level; now = b.now; balances = (serial_run s b).balances }
 
--- all that the block tells is so: where it stands, what its run leaves behind, and the digest of the state after it
-abbrev pub tells_true : Ledger → BlockView → Bool
-tells_true s b = stands_on s b && tells_run s.balances b.entry && bytes_eq b.state (digest_of (balances_after s.balances b.entry))
+-- the lines of the table, for bytes that are a block
+abbrev pub IsVerdictOn : Ledger → BlockView → Verdict → Type 0
+IsVerdictOn s b (Malformed p) = ⊥
+IsVerdictOn s b (NotYet p) = ⊥
+IsVerdictOn s b WrongParent = ¬ StandsOn s b
+IsVerdictOn s b (BadJoin j) = StandsOn s b × IsFirstBad b.joins j
+IsVerdictOn s b (Unordered i j c) = StandsOn s b × AreJoins b.joins × IsFirstUnordered b.joins b.footprints i j c
+IsVerdictOn s b (FootprintDiffers i) = IsOrdered s b × (i < length b.ops) × TellsFirst i s b × (¬ SameFootprint s b i)
+IsVerdictOn s b (ReceiptDiffers i) = IsOrdered s b × (i < length b.ops) × TellsFirst i s b × SameFootprint s b i × (¬ SameReceipt s b i)
+IsVerdictOn s b StateDiffers = IsOrdered s b × TellsFirst (length b.ops) s b × (b.state ≢ digest_of (serial_run s b).balances)
+IsVerdictOn s b (Accepted after) = IsOrdered s b × TellsFirst (length b.ops) s b × (b.state ≡ digest_of (serial_run s b).balances) × (after ≡ state_after s b)
 
-abbrev pub verdict_on : Ledger → Result BlockView ℕ → Verdict
-verdict_on s (Err at) = OtherForm
-verdict_on s (Ok b) = if tells_true s b then Accepted (state_after s b) else Differs
+-- the verdict on bytes that are read so
+abbrev pub IsVerdictOf : Ledger → Result BlockView FormatFault → Verdict → Type 0
+IsVerdictOf s (Ok b) v = IsVerdictOn s b v
+IsVerdictOf s (Err (faults.At p)) v = v ≡ Malformed p.0
+IsVerdictOf s (Err (faults.NotYet p)) v = v ≡ NotYet p
+IsVerdictOf s (Err faults.NoMemory) v = ⊥
 
 -- the verdict on the bytes of a block
-abbrev pub verdict : Ledger → List ℕ → Verdict
-verdict s bytes = verdict_on s (block_of bytes)
+abbrev pub IsVerdict : Ledger → List ℕ → Verdict → Type 0
+IsVerdict s bytes v = IsVerdictOf s (block_of bytes) v
+
+-- a state and bytes have one verdict
+abbrev pub HaveOneVerdict : Type 0
+HaveOneVerdict = (s : Ledger) (bytes : List ℕ) (v w : Verdict) → IsVerdict s bytes v → IsVerdict s bytes w → v ≡ w

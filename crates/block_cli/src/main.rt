@@ -3,7 +3,8 @@
 //!
 //! - `words`: which words are a command. `run`: the top call; begin there.
 //! - `validate`: a validation from the bytes of its files to what is written and printed.
-//! - `verdict`: what a block is worth on a state. `next`: the state after it, with its digest.
+//! - `verdict`: what a block is worth on a state. `replay`: its operations, run again against what
+//!   it publishes of them. `refusal`: why it is refused. `next`: the state after it, with its digest.
 //! - `report`: every line that is printed, over `print`. `status`: how a run ends.
 //!
 //! `specs/Runs.antt` says what a run does, by its status; `specs/Meaning.antt` what its words mean
@@ -13,6 +14,8 @@
 
 mod next;
 mod print;
+mod refusal;
+mod replay;
 mod report;
 mod run;
 mod status;

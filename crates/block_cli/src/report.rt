@@ -1,13 +1,18 @@
 //! Every line that the program prints.
-ghost use Rattle.std.specs.Prelude.{◌≡◌, ◌++◌, IfOk, codes};
+ghost use Rattle.std.specs.Prelude.{◌≡◌, ◌++◌, IfOk, OnOk, codes};
+ghost use Rattle.std.specs.Fmt.{decimal};
 ghost use Rattle.state_digest.specs.Digest.{digest_of};
-ghost use Rattle.block_cli.specs.Report.{usage_line, cannot_read_line, cannot_write_line, memory_line, bad_input_line, refused_line, accepted_line};
+ghost use Rattle.block_cli.specs.Report.{line, usage_line, cannot_read_line, cannot_write_line, memory_line, bad_input_line, refused_line, accepted_line, malformed, not_yet, unordered, cell_text};
 ghost use Rattle.block_cli.specs.Seen.{Prints};
+ghost use Rattle.block_cli.specs.Judging.{words_of};
 
 use crate::print::print_three;
+use crate::refusal::Refusal;
+use cell_names::Cell;
 use edge_io::Sink;
 use ledger_state::State;
 use std::alloc::{AllocError, Global};
+use value_core::Address;
 
 const USAGE: &[u8] =
     b"usage: compile SRC OUT | check CODE | genesis TEXT STATE | mine STATE OPS BLOCK NEXT WORKERS | validate STATE BLOCK NEXT WORKERS | show STATE | load NUMBER COUNT WORKERS\n";
@@ -47,13 +52,6 @@ pub fn out_of_memory<K: Sink>(out: &mut K)
     tell(out, b"out of memory", b"\n", b"");
 }
 
-/// A file is in another form than the one that is read.
-pub fn other_form<K: Sink>(out: &mut K, name: &str)
-    ensures { Prints (K.seen out.old) (bad_input_line name.now (codes "OtherForm")) (K.seen out.new) }
-{
-    tell(out, name.as_bytes(), b": OtherForm", b"\n");
-}
-
 /// A file is longer than a reader takes.
 pub fn too_long<K: Sink>(out: &mut K, name: &str)
     ensures { Prints (K.seen out.old) (bad_input_line name.now (codes "TooLong")) (K.seen out.new) }
@@ -61,11 +59,107 @@ pub fn too_long<K: Sink>(out: &mut K, name: &str)
     tell(out, name.as_bytes(), b": TooLong", b"\n");
 }
 
-/// A block is refused, and why.
-pub fn refused<K: Sink>(out: &mut K, why: &str)
-    ensures { Prints (K.seen out.old) (refused_line why.now) (K.seen out.new) }
+/// A line that stands ready.
+pub fn say<K: Sink>(out: &mut K, line: &[u8])
+    ensures { Prints (K.seen out.old) line.now (K.seen out.new) }
 {
-    tell(out, b"refused: ", why.as_bytes(), b"\n");
+    tell(out, line, b"", b"");
+}
+
+/// The bytes of a file break their format, first at a place.
+pub fn malformed(alloc: Global, name: &str, place: usize) -> Result<Vec<u8>, AllocError>
+    ensures { IfOk result (λ v. v.items ≡ bad_input_line name.now (malformed place)) }
+{
+    let why = numbered(alloc, b"Malformed at ", place as u64)?;
+    line_of(alloc, name.as_bytes(), b": ", &why)
+}
+
+/// A file holds something lawful that isn't built yet, first at a place.
+pub fn not_yet(alloc: Global, name: &str, place: usize) -> Result<Vec<u8>, AllocError>
+    ensures { IfOk result (λ v. v.items ≡ bad_input_line name.now (not_yet place)) }
+{
+    let why = numbered(alloc, b"NotYet at ", place as u64)?;
+    line_of(alloc, name.as_bytes(), b": ", &why)
+}
+
+/// A block is refused, and why.
+pub fn refused(alloc: Global, why: &Refusal) -> Result<Vec<u8>, AllocError>
+    ensures { IfOk result (λ v. v.items ≡ refused_line (words_of why.now)) }
+{
+    let why = words_of(alloc, why)?;
+    line_of(alloc, b"", b"refused: ", &why)
+}
+
+fn words_of(alloc: Global, why: &Refusal) -> Result<Vec<u8>, AllocError>
+    ensures { IfOk result (λ v. v.items ≡ words_of why.now) }
+{
+    match why {
+        Refusal::Malformed(place) => numbered(alloc, b"Malformed at ", *place as u64),
+        Refusal::NotYet(place) => numbered(alloc, b"NotYet at ", *place as u64),
+        Refusal::WrongParent => Vec::from_slice(alloc, b"WrongParent"),
+        Refusal::BadJoin(operation) => numbered(alloc, b"BadJoin ", u64::from(*operation)),
+        Refusal::Unordered(earlier, later, cell) => unordered(alloc, *earlier, *later, cell),
+        Refusal::FootprintDiffers(operation) => {
+            numbered(alloc, b"FootprintDiffers ", u64::from(*operation))
+        }
+        Refusal::ReceiptDiffers(operation) => {
+            numbered(alloc, b"ReceiptDiffers ", u64::from(*operation))
+        }
+        Refusal::StateDiffers => Vec::from_slice(alloc, b"StateDiffers"),
+    }
+}
+
+fn unordered(alloc: Global, earlier: u32, later: u32, cell: &Cell) -> Result<Vec<u8>, AllocError>
+    ensures { IfOk result (λ v. v.items ≡ unordered earlier later cell.now) }
+{
+    let mut text = numbered(alloc, b"Unordered ", u64::from(earlier))?;
+    text.push(b' ')?;
+    put_number(alloc, u64::from(later), &mut text)?;
+    text.push(b' ')?;
+    put_cell(alloc, cell, &mut text)?;
+    Ok(text)
+}
+
+fn put_cell(alloc: Global, cell: &Cell, text: &mut Vec<u8>) -> Result<(), AllocError>
+    ensures { OnOk result (text.new.items ≡ text.old.items ++ cell_text cell.now) }
+{
+    match cell {
+        Cell::Balance(address) => put_balance(alloc, address, text),
+    }
+}
+
+fn put_balance(alloc: Global, address: &Address, text: &mut Vec<u8>) -> Result<(), AllocError>
+    ensures { OnOk result
+        (text.new.items ≡ text.old.items ++ cell_text (Cell.Balance address.now)) }
+{
+    let digits = hex::encode(alloc, address.bytes())?;
+    text.extend_from_slice(b"balance 0x")?;
+    text.extend_from_slice(digits.as_bytes())
+}
+
+fn numbered(alloc: Global, words: &[u8], number: u64) -> Result<Vec<u8>, AllocError>
+    ensures { IfOk result (λ v. v.items ≡ words.now ++ decimal number) }
+{
+    let mut text = Vec::from_slice(alloc, words)?;
+    put_number(alloc, number, &mut text)?;
+    Ok(text)
+}
+
+fn put_number(alloc: Global, number: u64, text: &mut Vec<u8>) -> Result<(), AllocError>
+    ensures { OnOk result (text.new.items ≡ text.old.items ++ decimal number) }
+{
+    let digits = number.to_string(alloc)?;
+    text.extend_from_slice(digits.as_bytes())
+}
+
+fn line_of(alloc: Global, a: &[u8], b: &[u8], c: &[u8]) -> Result<Vec<u8>, AllocError>
+    ensures { IfOk result (λ v. v.items ≡ line (a.now ++ b.now ++ c.now)) }
+{
+    let mut text = Vec::from_slice(alloc, a)?;
+    text.extend_from_slice(b)?;
+    text.extend_from_slice(c)?;
+    text.push(b'\n')?;
+    Ok(text)
 }
 
 /// A block is accepted: the level of the next state, and its digest.

@@ -20,11 +20,14 @@ pub fn run_still<R: AllocGlobal, F: Files, K: Sink, G: Gate + Sync>(
     _gate: &G,
 ) -> Option<Status>
     ensures answers { IsSome result }
-    ensures usage { IfSome result (λ status. (status ≡ Status.Usage) ↔ (command_of (map string_bytes words.now) ≡ None)) }
+    ensures usage { IfSome result (λ status.
+        (status ≡ Status.Usage) ↔ (command_of (map string_bytes words.now) ≡ None)) }
     ensures runs { IfSome result (λ status. Runs (map string_bytes words.now)
-        (seen_of (F.seen files.old) (K.seen out.old)) status (seen_of (F.seen files.new) (K.seen out.new))) }
+        (seen_of (F.seen files.old) (K.seen out.old)) status
+        (seen_of (F.seen files.new) (K.seen out.new))) }
     ensures complete { IfSome result (λ status. Completes (map string_bytes words.now)
-        (seen_of (F.seen files.old) (K.seen out.old)) status (seen_of (F.seen files.new) (K.seen out.new))) }
+        (seen_of (F.seen files.old) (K.seen out.old)) status
+        (seen_of (F.seen files.new) (K.seen out.new))) }
 {
     match read_words(words) {
         None => {
@@ -45,9 +48,11 @@ pub fn run<R: AllocGlobal, F: Files, K: Sink, G: Gate + Sync>(
 ) -> Status
     ensures usage { (result ≡ Status.Usage) ↔ (command_of (map string_bytes words.now) ≡ None) }
     ensures runs { Runs (map string_bytes words.now)
-        (seen_of (F.seen files.old) (K.seen out.old)) result (seen_of (F.seen files.new) (K.seen out.new)) }
+        (seen_of (F.seen files.old) (K.seen out.old)) result
+        (seen_of (F.seen files.new) (K.seen out.new)) }
     ensures complete { Completes (map string_bytes words.now)
-        (seen_of (F.seen files.old) (K.seen out.old)) result (seen_of (F.seen files.new) (K.seen out.new)) }
+        (seen_of (F.seen files.old) (K.seen out.old)) result
+        (seen_of (F.seen files.new) (K.seen out.new)) }
 {
     run_still(rt, words, files, out, gate).unwrap()
 }

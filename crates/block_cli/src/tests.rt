@@ -6,78 +6,175 @@ use std::alloc::Global;
 use std::process::Abort;
 use std::test::Fail;
 
-/// A has 100 and C has 50, at level 0 and time 0.
-const STATE: &str = "464a5331 00000000 0000000000000000 00000000 00000002 \
-    00 0000000000000000000000000000000000000000000a 05 0000000000000064 \
-    00 0000000000000000000000000000000000000000000c 05 0000000000000032";
+/// Words that stand for bytes: accounts, the heads of a block and of the state after it at level 1
+/// and time 60, a call of `default` with Unit, no gas and turns, receipts, and digests of states.
+const BYTES: [(&str, &str); 15] = [
+    ("A", "0000000000000000000000000000000000000000000a"),
+    ("B", "0000000000000000000000000000000000000000000b"),
+    ("C", "0000000000000000000000000000000000000000000c"),
+    ("T", "0000000000000000000000000000000000000000000d"),
+    (
+        "BLOCK",
+        "464a423131c1a226f52dbf400248d8c61b98992775338e3d2c1567334ef5b329a352b93e00000001000000000000003c",
+    ),
+    ("LATER", "464a533100000001000000000000003c00000000"),
+    ("CALL", "0764656661756c7400"),
+    ("FREE", "0000000000000000"),
+    ("APPLIED", "0000000000"),
+    ("TOO_LOW", "0100000000"),
+    (
+        "SAME",
+        "31c1a226f52dbf400248d8c61b98992775338e3d2c1567334ef5b329a352b93e",
+    ),
+    (
+        "PAID",
+        "1104ffdba6ab6a8eb863a6c776e1e0bd3761d79b1b05eae9532fbab2c94441f0",
+    ),
+    (
+        "STARVED",
+        "b3cd3199c64ddae45c1c97423eb1e9953d8714095a4d712eb84b76e8dd274d3d",
+    ),
+    (
+        "SHARED",
+        "427e073592a31c27b9b935c733fd7d4c4e1c32b27343e1dbc9dd5771efcf0ac7",
+    ),
+    (
+        "PASSED_ON",
+        "fef99a93dd22de98b5044b2c4c82b47d4eb740a2d12f374d79545cd0a0d66a6a",
+    ),
+];
 
-/// No operation, at level 1 and time 60.
-const EMPTY: &str = "464a4231 31c1a226f52dbf400248d8c61b98992775338e3d2c1567334ef5b329a352b93e \
-    00000001 000000000000003c 00000000 \
-    31c1a226f52dbf400248d8c61b98992775338e3d2c1567334ef5b329a352b93e";
+/// States and blocks. In `s` A has 100 and C has 50, at level 0 and time 0.
+const FILES: [(&str, &str); 15] = [
+    (
+        "s",
+        "464a5331 00000000 0000000000000000 00000000 00000002 00 A 05 0000000000000064 00 C 05 0000000000000032",
+    ),
+    (
+        "last",
+        "464a5331 ffffffff 0000000000000000 00000000 00000002 00 A 05 0000000000000064 00 C 05 0000000000000032",
+    ),
+    ("empty", "BLOCK 00000000 SAME"),
+    (
+        "paid",
+        "BLOCK 00000001 A B CALL 000000000000000a FREE 00000000 00000002 00 A 02 00 B 01 APPLIED PAID",
+    ),
+    (
+        "owned",
+        "BLOCK 00000001 A B CALL 000000000000000a FREE 00000000 00000002 00 A 02 00 B 02 APPLIED PAID",
+    ),
+    (
+        "exchanged",
+        "BLOCK 00000001 A B CALL 000000000000000a FREE 00000000 00000002 00 B 01 00 A 02 APPLIED PAID",
+    ),
+    (
+        "to_self",
+        "BLOCK 00000001 A A CALL 000000000000000a FREE 00000000 00000001 00 A 02 APPLIED SAME",
+    ),
+    (
+        "nothing",
+        "BLOCK 00000001 A B CALL 0000000000000000 FREE 00000000 00000000 APPLIED SAME",
+    ),
+    (
+        "too_low",
+        "BLOCK 00000001 A B CALL 0000000000000065 FREE 00000000 00000001 00 A 02 TOO_LOW SAME",
+    ),
+    (
+        "starved",
+        "BLOCK 00000002 A B CALL 000000000000003c FREE A C CALL 000000000000003c FREE \
+        00000000 00000001 00000000 00000002 00 A 02 00 B 01 00000001 00 A 02 APPLIED TOO_LOW STARVED",
+    ),
+    (
+        "unjoined",
+        "BLOCK 00000002 A B CALL 000000000000003c FREE A C CALL 000000000000003c FREE \
+        00000000 00000000 00000002 00 A 02 00 B 01 00000001 00 A 02 APPLIED TOO_LOW STARVED",
+    ),
+    (
+        "untouched",
+        "BLOCK 00000002 A B CALL 000000000000003c FREE A C CALL 000000000000003c FREE \
+        00000000 00000001 00000000 00000002 00 A 02 00 B 01 00000000 APPLIED TOO_LOW STARVED",
+    ),
+    (
+        "shared",
+        "BLOCK 00000002 A T CALL 000000000000000a FREE C T CALL 0000000000000005 FREE \
+        00000000 00000000 00000002 00 A 02 00 T 01 00000002 00 C 02 00 T 01 APPLIED APPLIED SHARED",
+    ),
+    (
+        "passed_on",
+        "BLOCK 00000002 A T CALL 000000000000000a FREE T C CALL 0000000000000001 FREE \
+        00000000 00000001 00000000 00000002 00 A 02 00 T 01 00000002 00 C 01 00 T 02 APPLIED APPLIED PASSED_ON",
+    ),
+    (
+        "turned",
+        "BLOCK 00000002 T C CALL 0000000000000001 FREE A T CALL 000000000000000a FREE \
+        00000000 00000001 00000000 00000001 00 T 02 00000002 00 A 02 00 T 01 TOO_LOW APPLIED 2c5dfaaf408d0f4b514e87240e76f2f091f4e7caf6769af20bbf6c5d6390cf0a",
+    ),
+];
 
-/// A pays B 10: A is Own, B is Credit.
-const PAID: &str = "464a4231 31c1a226f52dbf400248d8c61b98992775338e3d2c1567334ef5b329a352b93e \
-    00000001 000000000000003c 00000001 \
-    0000000000000000000000000000000000000000000a 0000000000000000000000000000000000000000000b \
-    0764656661756c7400 000000000000000a 00000000 00000000 00000000 00000002 \
-    00 0000000000000000000000000000000000000000000a 02 \
-    00 0000000000000000000000000000000000000000000b 01 \
-    00 00000000 \
-    1104ffdba6ab6a8eb863a6c776e1e0bd3761d79b1b05eae9532fbab2c94441f0";
+/// Blocks that are accepted on `s`, the digest that is printed, and the next state.
+const ACCEPTED: [(&str, &str, &str); 9] = [
+    (
+        "empty",
+        "31c1a226f52dbf400248d8c61b98992775338e3d2c1567334ef5b329a352b93e",
+        "LATER 00000002 00 A 05 0000000000000064 00 C 05 0000000000000032",
+    ),
+    (
+        "to_self",
+        "31c1a226f52dbf400248d8c61b98992775338e3d2c1567334ef5b329a352b93e",
+        "LATER 00000002 00 A 05 0000000000000064 00 C 05 0000000000000032",
+    ),
+    (
+        "nothing",
+        "31c1a226f52dbf400248d8c61b98992775338e3d2c1567334ef5b329a352b93e",
+        "LATER 00000002 00 A 05 0000000000000064 00 C 05 0000000000000032",
+    ),
+    (
+        "too_low",
+        "31c1a226f52dbf400248d8c61b98992775338e3d2c1567334ef5b329a352b93e",
+        "LATER 00000002 00 A 05 0000000000000064 00 C 05 0000000000000032",
+    ),
+    (
+        "paid",
+        "1104ffdba6ab6a8eb863a6c776e1e0bd3761d79b1b05eae9532fbab2c94441f0",
+        "LATER 00000003 00 A 05 000000000000005a 00 B 05 000000000000000a 00 C 05 0000000000000032",
+    ),
+    (
+        "starved",
+        "b3cd3199c64ddae45c1c97423eb1e9953d8714095a4d712eb84b76e8dd274d3d",
+        "LATER 00000003 00 A 05 0000000000000028 00 B 05 000000000000003c 00 C 05 0000000000000032",
+    ),
+    (
+        "shared",
+        "427e073592a31c27b9b935c733fd7d4c4e1c32b27343e1dbc9dd5771efcf0ac7",
+        "LATER 00000003 00 A 05 000000000000005a 00 C 05 000000000000002d 00 T 05 000000000000000f",
+    ),
+    (
+        "passed_on",
+        "fef99a93dd22de98b5044b2c4c82b47d4eb740a2d12f374d79545cd0a0d66a6a",
+        "LATER 00000003 00 A 05 000000000000005a 00 C 05 0000000000000033 00 T 05 0000000000000009",
+    ),
+    (
+        "turned",
+        "2c5dfaaf408d0f4b514e87240e76f2f091f4e7caf6769af20bbf6c5d6390cf0a",
+        "LATER 00000003 00 A 05 000000000000005a 00 C 05 0000000000000032 00 T 05 000000000000000a",
+    ),
+];
 
-/// A pays B 10, where B is said to be Own.
-const OWNED: &str = "464a4231 31c1a226f52dbf400248d8c61b98992775338e3d2c1567334ef5b329a352b93e \
-    00000001 000000000000003c 00000001 \
-    0000000000000000000000000000000000000000000a 0000000000000000000000000000000000000000000b \
-    0764656661756c7400 000000000000000a 00000000 00000000 00000000 00000002 \
-    00 0000000000000000000000000000000000000000000a 02 \
-    00 0000000000000000000000000000000000000000000b 02 \
-    00 00000000 \
-    1104ffdba6ab6a8eb863a6c776e1e0bd3761d79b1b05eae9532fbab2c94441f0";
-
-/// A pays A 10.
-const TO_SELF: &str = "464a4231 31c1a226f52dbf400248d8c61b98992775338e3d2c1567334ef5b329a352b93e \
-    00000001 000000000000003c 00000001 \
-    0000000000000000000000000000000000000000000a 0000000000000000000000000000000000000000000a \
-    0764656661756c7400 000000000000000a 00000000 00000000 00000000 00000001 \
-    00 0000000000000000000000000000000000000000000a 02 \
-    00 00000000 \
-    31c1a226f52dbf400248d8c61b98992775338e3d2c1567334ef5b329a352b93e";
-
-/// A pays B nothing.
-const NOTHING: &str = "464a4231 31c1a226f52dbf400248d8c61b98992775338e3d2c1567334ef5b329a352b93e \
-    00000001 000000000000003c 00000001 \
-    0000000000000000000000000000000000000000000a 0000000000000000000000000000000000000000000b \
-    0764656661756c7400 0000000000000000 00000000 00000000 00000000 00000000 \
-    00 00000000 \
-    31c1a226f52dbf400248d8c61b98992775338e3d2c1567334ef5b329a352b93e";
-
-/// A pays B 101, which A has not.
-const TOO_LOW: &str = "464a4231 31c1a226f52dbf400248d8c61b98992775338e3d2c1567334ef5b329a352b93e \
-    00000001 000000000000003c 00000001 \
-    0000000000000000000000000000000000000000000a 0000000000000000000000000000000000000000000b \
-    0764656661756c7400 0000000000000065 00000000 00000000 00000000 00000001 \
-    00 0000000000000000000000000000000000000000000a 02 \
-    01 00000000 \
-    31c1a226f52dbf400248d8c61b98992775338e3d2c1567334ef5b329a352b93e";
-
-/// The state after a block that moves nothing.
-const SAME_LATER: &str = "464a5331 00000001 000000000000003c 00000000 00000002 \
-    00 0000000000000000000000000000000000000000000a 05 0000000000000064 \
-    00 0000000000000000000000000000000000000000000c 05 0000000000000032";
-
-/// The state after A paid B 10.
-const PAID_LATER: &str = "464a5331 00000001 000000000000003c 00000000 00000003 \
-    00 0000000000000000000000000000000000000000000a 05 000000000000005a \
-    00 0000000000000000000000000000000000000000000b 05 000000000000000a \
-    00 0000000000000000000000000000000000000000000c 05 0000000000000032";
+/// Blocks that are refused on `s`.
+const REFUSED: [(&str, &str); 6] = [
+    ("owned", "FootprintDiffers 0"),
+    (
+        "unjoined",
+        "Unordered 0 1 balance 0x0000000000000000000000000000000000000000000a",
+    ),
+    ("untouched", "FootprintDiffers 1"),
+    ("cut", "Malformed at 182"),
+    ("exchanged", "Malformed at 153"),
+    ("longer", "Malformed at 214"),
+];
 
 const SAME_LINE: &str =
     "accepted, level 1, state 31c1a226f52dbf400248d8c61b98992775338e3d2c1567334ef5b329a352b93e\n";
-
-const PAID_LINE: &str =
-    "accepted, level 1, state 1104ffdba6ab6a8eb863a6c776e1e0bd3761d79b1b05eae9532fbab2c94441f0\n";
 
 const USAGE_LINE: &str = "usage: compile SRC OUT | check CODE | genesis TEXT STATE | \
     mine STATE OPS BLOCK NEXT WORKERS | validate STATE BLOCK NEXT WORKERS | show STATE | \
@@ -92,214 +189,223 @@ enum Fault {
     Print(u32),
 }
 
-/// The words of a run with the call that fails, and the wanted status, text and file `n`.
-#[derive(Drop)]
-struct Trial {
-    words: &'static str,
-    fault: Fault,
-    status: Status,
-    text: &'static str,
-    next: Option<&'static str>,
+/// Words, the call that fails, the wanted status and text, and whether `n` is written.
+const CAUSES: [(&str, Fault, Status, &str, bool); 15] = [
+    (
+        "validate last empty n 1",
+        Fault::None,
+        Status::Refused,
+        "refused: WrongParent\n",
+        false,
+    ),
+    (
+        "validate short empty n 1",
+        Fault::None,
+        Status::BadInput,
+        "short: Malformed at 80\n",
+        false,
+    ),
+    (
+        "validate short absent n 1",
+        Fault::None,
+        Status::ReadFault,
+        "cannot read absent\n",
+        false,
+    ),
+    (
+        "validate s empty n 65",
+        Fault::None,
+        Status::Usage,
+        USAGE_LINE,
+        false,
+    ),
+    (
+        "validate s n n 1",
+        Fault::None,
+        Status::Usage,
+        USAGE_LINE,
+        false,
+    ),
+    ("mine s", Fault::None, Status::Usage, USAGE_LINE, false),
+    (
+        "validate s empty n 1",
+        Fault::Read(0),
+        Status::ReadFault,
+        "cannot read s\n",
+        false,
+    ),
+    (
+        "validate s empty n 1",
+        Fault::Read(1),
+        Status::ReadFault,
+        "cannot read empty\n",
+        false,
+    ),
+    (
+        "validate s empty n 1",
+        Fault::Read(2),
+        Status::Done,
+        SAME_LINE,
+        true,
+    ),
+    (
+        "validate s empty n 1",
+        Fault::Write(0),
+        Status::WriteFault,
+        "cannot write n\n",
+        false,
+    ),
+    (
+        "validate s empty n 1",
+        Fault::Print(0),
+        Status::WriteFault,
+        "",
+        true,
+    ),
+    (
+        "validate s owned n 1",
+        Fault::Print(0),
+        Status::Refused,
+        "",
+        false,
+    ),
+    (
+        "validate s cut n 1",
+        Fault::Write(0),
+        Status::Refused,
+        "refused: Malformed at 182\n",
+        false,
+    ),
+    (
+        "validate short empty n 1",
+        Fault::Print(0),
+        Status::BadInput,
+        "",
+        false,
+    ),
+    (
+        "validate s empty n 0",
+        Fault::Print(0),
+        Status::Usage,
+        "",
+        false,
+    ),
+];
+
+/// The digits of a word.
+fn digits_of(word: &str) -> &str {
+    for (name, digits) in &BYTES {
+        if *name == word {
+            return digits;
+        }
+    }
+    word
 }
 
-/// The bytes of fields that are parted by blanks.
-fn bytes_of(alloc: Global, fields: &str) -> Result<Vec<u8>, Fail> {
+/// The bytes of words that are parted by blanks.
+fn bytes_of(alloc: Global, words: &str) -> Result<Vec<u8>, Fail> {
     let mut bytes = Vec::new(alloc);
-    for field in fields.split(' ') {
-        bytes.extend_from_slice(&hex::decode(alloc, field)?)?;
+    for word in words.split(' ') {
+        bytes.extend_from_slice(&hex::decode(alloc, digits_of(word))?)?;
     }
     Ok(bytes)
 }
 
+/// The files, with a block and a state that lack their last byte, and a block with one more.
 fn files_of(alloc: Global) -> Result<MemFiles, Fail> {
     let mut files = MemFiles::new(alloc);
-    files.put(alloc, "s", &bytes_of(alloc, STATE)?)?;
-    files.put(alloc, "empty", &bytes_of(alloc, EMPTY)?)?;
-    files.put(alloc, "paid", &bytes_of(alloc, PAID)?)?;
-    files.put(alloc, "owned", &bytes_of(alloc, OWNED)?)?;
-    files.put(alloc, "to_self", &bytes_of(alloc, TO_SELF)?)?;
-    files.put(alloc, "nothing", &bytes_of(alloc, NOTHING)?)?;
-    files.put(alloc, "too_low", &bytes_of(alloc, TOO_LOW)?)?;
+    for (name, words) in &FILES {
+        files.put(alloc, name, &bytes_of(alloc, words)?)?;
+    }
+    let mut paid = bytes_of(alloc, FILES[3].1)?;
+    paid.push(0)?;
+    files.put(alloc, "longer", &paid)?;
+    paid.truncate(213);
+    files.put(alloc, "cut", &paid)?;
+    let mut state = bytes_of(alloc, FILES[0].1)?;
+    state.truncate(87);
+    files.put(alloc, "short", &state)?;
     Ok(files)
 }
 
-fn tried<R: AllocGlobal + Abort>(rt: &R, row: &Trial) -> Result<(), Fail> {
+/// How a run ended, what it printed, and the file `n` after it.
+#[derive(Drop)]
+struct Ended {
+    status: Status,
+    text: Vec<u8>,
+    next: Option<Vec<u8>>,
+}
+
+/// Runs the words where a call fails.
+fn ran<R: AllocGlobal + Abort>(rt: &R, words: &str, fault: Fault) -> Result<Ended, Fail> {
     let alloc = rt.alloc();
     let mut files = files_of(alloc)?;
     let mut out = MemSink::new(alloc);
     out.room(alloc, 1000)?;
-    match row.fault {
+    match fault {
         Fault::None => {}
         Fault::Read(k) => files.fail_read(alloc, k)?,
         Fault::Write(k) => files.fail_write(alloc, k)?,
         Fault::Print(k) => out.fail_at(alloc, k)?,
     }
-    let mut words = Vec::new(alloc);
-    for word in row.words.split(' ') {
-        words.push(String::from_str(alloc, word)?)?;
+    let mut list = Vec::new(alloc);
+    for word in words.split(' ') {
+        list.push(String::from_str(alloc, word)?)?;
     }
-    let status = run(rt, &words, &mut files, &mut out, &OpenGate);
-    assert_eq!(rt; status, row.status, "{}", row.words);
-    assert_eq!(rt; out.bytes(), row.text.as_bytes(), "{}", row.words);
-    match row.next {
-        None => assert!(rt; files.get("n").is_none(), "{}", row.words),
-        Some(fields) => {
-            let next = bytes_of(alloc, fields)?;
-            assert_eq!(rt; files.get("n"), Some(next.as_slice()), "{}", row.words);
+    let status = run(rt, &list, &mut files, &mut out, &OpenGate);
+    let text = Vec::from_slice(alloc, out.bytes())?;
+    let next = match files.get("n") {
+        Some(bytes) => Some(Vec::from_slice(alloc, bytes)?),
+        None => None,
+    };
+    Ok(Ended { status, text, next })
+}
+
+#[test]
+fn true_blocks_are_accepted_with_one_worker_and_with_sixty_four(
+    rt: HostRuntime,
+) -> Result<(), Fail> {
+    let alloc = rt.alloc();
+    for (block, digest, next) in &ACCEPTED {
+        let line = format!(in alloc; "accepted, level 1, state {digest}\n")?;
+        let wanted = bytes_of(alloc, next)?;
+        for workers in &["1", "64"] {
+            let words = format!(in alloc; "validate s {block} n {workers}")?;
+            let ended = ran(&rt, words.as_str(), Fault::None)?;
+            let written = ended.next.ok_or("nothing is written")?;
+            assert_eq!(rt; ended.status, Status::Done, "{words}");
+            assert_eq!(rt; ended.text.as_slice(), line.as_bytes(), "{words}");
+            assert_eq!(rt; written.as_slice(), wanted.as_slice(), "{words}");
         }
     }
     Ok(())
 }
 
-fn row(
-    words: &'static str,
-    fault: Fault,
-    status: Status,
-    text: &'static str,
-    next: Option<&'static str>,
-) -> Trial {
-    Trial {
-        words,
-        fault,
-        status,
-        text,
-        next,
+#[test]
+fn false_blocks_are_refused_with_one_worker_and_with_sixty_four(
+    rt: HostRuntime,
+) -> Result<(), Fail> {
+    let alloc = rt.alloc();
+    for (block, why) in &REFUSED {
+        let line = format!(in alloc; "refused: {why}\n")?;
+        for workers in &["1", "64"] {
+            let words = format!(in alloc; "validate s {block} n {workers}")?;
+            let ended = ran(&rt, words.as_str(), Fault::None)?;
+            assert_eq!(rt; ended.status, Status::Refused, "{words}");
+            assert_eq!(rt; ended.text.as_slice(), line.as_bytes(), "{words}");
+            assert!(rt; ended.next.is_none(), "{words}");
+        }
     }
+    Ok(())
 }
 
 #[test]
 fn a_validation_ends_by_its_first_cause(rt: HostRuntime) -> Result<(), Fail> {
-    let rows = [
-        row(
-            "validate s empty n 1",
-            Fault::None,
-            Status::Done,
-            SAME_LINE,
-            Some(SAME_LATER),
-        ),
-        row(
-            "validate s paid n 64",
-            Fault::None,
-            Status::Done,
-            PAID_LINE,
-            Some(PAID_LATER),
-        ),
-        row(
-            "validate s owned n 1",
-            Fault::None,
-            Status::Refused,
-            "refused: Differs\n",
-            None,
-        ),
-        row(
-            "validate s to_self n 2",
-            Fault::None,
-            Status::Done,
-            SAME_LINE,
-            Some(SAME_LATER),
-        ),
-        row(
-            "validate s nothing n 1",
-            Fault::None,
-            Status::Done,
-            SAME_LINE,
-            Some(SAME_LATER),
-        ),
-        row(
-            "validate s too_low n 1",
-            Fault::None,
-            Status::Done,
-            SAME_LINE,
-            Some(SAME_LATER),
-        ),
-        row(
-            "validate s s n 1",
-            Fault::None,
-            Status::Refused,
-            "refused: OtherForm\n",
-            None,
-        ),
-        row(
-            "validate empty empty n 1",
-            Fault::None,
-            Status::BadInput,
-            "empty: OtherForm\n",
-            None,
-        ),
-        row(
-            "validate s absent n 1",
-            Fault::None,
-            Status::ReadFault,
-            "cannot read absent\n",
-            None,
-        ),
-        row(
-            "validate s empty n 65",
-            Fault::None,
-            Status::Usage,
-            USAGE_LINE,
-            None,
-        ),
-        row(
-            "validate s n n 1",
-            Fault::None,
-            Status::Usage,
-            USAGE_LINE,
-            None,
-        ),
-        row("mine s", Fault::None, Status::Usage, USAGE_LINE, None),
-        row(
-            "validate s empty n 1",
-            Fault::Read(0),
-            Status::ReadFault,
-            "cannot read s\n",
-            None,
-        ),
-        row(
-            "validate s empty n 1",
-            Fault::Read(1),
-            Status::ReadFault,
-            "cannot read empty\n",
-            None,
-        ),
-        row(
-            "validate s empty n 1",
-            Fault::Write(0),
-            Status::WriteFault,
-            "cannot write n\n",
-            None,
-        ),
-        row(
-            "validate s empty n 1",
-            Fault::Print(0),
-            Status::WriteFault,
-            "",
-            Some(SAME_LATER),
-        ),
-        row(
-            "validate s owned n 1",
-            Fault::Print(0),
-            Status::Refused,
-            "",
-            None,
-        ),
-        row(
-            "validate s empty n 0",
-            Fault::Print(0),
-            Status::Usage,
-            "",
-            None,
-        ),
-        row(
-            "validate s empty n 1",
-            Fault::Read(2),
-            Status::Done,
-            SAME_LINE,
-            Some(SAME_LATER),
-        ),
-    ];
-    for row in &rows {
-        tried(&rt, row)?;
+    for (words, fault, status, text, is_written) in &CAUSES {
+        let ended = ran(&rt, words, *fault)?;
+        assert_eq!(rt; ended.status, *status, "{words}");
+        assert_eq!(rt; ended.text.as_slice(), text.as_bytes(), "{words}");
+        assert_eq!(rt; ended.next.is_some(), *is_written, "{words}");
     }
     Ok(())
 }

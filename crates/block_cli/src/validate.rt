@@ -1,13 +1,14 @@
 //! Validating a block: `validate STATE BLOCK NEXT WORKERS`.
 ghost use Rattle.std.specs.Prelude.{◌≡◌, IfOk, Ok};
-ghost use Rattle.byte_fields.specs.Told.{Tells};
+ghost use Rattle.cell_names.specs.Answers.{IsTold};
 ghost use Rattle.edge_io.specs.Outside.{GoesOn};
-ghost use Rattle.ledger_state.specs.Place.{ledger_of};
+ghost use Rattle.ledger_state.specs.Reading.{ledger_of};
 ghost use Rattle.block_cli.specs.Verdict.{Accepted};
-ghost use Rattle.block_cli.specs.Meaning.{answer_of, done, judged};
+ghost use Rattle.block_cli.specs.Meaning.{IsJudged, IsJudgedOn, answer_of, done};
 ghost use Rattle.block_cli.specs.Seen.{seen_of};
 ghost use Rattle.block_cli.specs.Runs.{Validates};
-ghost use Rattle.block_cli.specs.Inside.{view, answer_in, ReadsBoth, Ends};
+ghost use Rattle.block_cli.specs.Judging.{answer_in};
+ghost use Rattle.block_cli.specs.Inside.{view, ReadsBoth, Ends};
 
 use crate::next::Next;
 use crate::print::print;
@@ -15,7 +16,8 @@ use crate::report;
 use crate::status::Status;
 use crate::verdict::{Judgment, verdict_of};
 use crate::words::Validation;
-use byte_fields::FieldFault;
+use byte_fields::At;
+use cell_names::FormatFault;
 use edge_io::{Files, ReadEnd, Sink};
 use ledger_state::{State, read_state, write_state};
 use std::alloc::{AllocError, Global};
@@ -36,9 +38,10 @@ pub enum Stop {
 /// What came of the bytes that were read.
 #[derive(Drop)]
 pub enum Judged {
-    StateOtherForm,
-    OtherForm,
-    Differs,
+    /// The state is at fault: the line that says so.
+    BadState(Vec<u8>),
+    /// The block is refused: the line that says why.
+    Refused(Vec<u8>),
     NextTooLong,
     /// The line to be printed, and the file of the next state.
     Accepted { text: Vec<u8>, next: Vec<u8> },
@@ -69,8 +72,8 @@ fn read_both<F: Files>(
 }
 
 /// The state that bytes spell. The bytes are let go here.
-fn parsed(alloc: Global, bytes: Vec<u8>) -> Result<State, FieldFault>
-    ensures { Tells result (ledger_of bytes.items) }
+fn parsed(alloc: Global, bytes: Vec<u8>) -> Result<State, FormatFault>
+    ensures { IsTold result (ledger_of bytes.items) }
 {
     read_state(alloc, &bytes)
 }
@@ -91,6 +94,22 @@ fn accepted(alloc: Global, command: &Validation<'_>, next: Next) -> Result<Judge
     Ok(Judged::Accepted { text, next: bytes })
 }
 
+/// Judges a block on a state.
+fn judge_on(
+    alloc: Global,
+    command: &Validation<'_>,
+    state: State,
+    block: &[u8],
+) -> Result<Judged, AllocError>
+    ensures { let c = view command.now in
+        IfOk result (λ judged. IsJudgedOn c (Ok state) block.now (answer_in c judged)) }
+{
+    match verdict_of(alloc, state, block)? {
+        Judgment::Refused(why) => Ok(Judged::Refused(report::refused(alloc, &why)?)),
+        Judgment::Accepted(next) => accepted(alloc, command, next),
+    }
+}
+
 /// Judges a block on the state that bytes spell.
 fn judge(
     alloc: Global,
@@ -99,17 +118,19 @@ fn judge(
     block: &[u8],
 ) -> Result<Judged, AllocError>
     ensures { let c = view command.now in
-        IfOk result (λ answer. answer_in c answer ≡ judged c state.items block.now) }
+        IfOk result (λ judged. IsJudged c state.items block.now (answer_in c judged)) }
 {
-    let state = match parsed(alloc, state) {
-        Ok(state) => state,
-        Err(FieldFault::NoMemory) => return Err(AllocError),
-        Err(FieldFault::At(_)) => return Ok(Judged::StateOtherForm),
-    };
-    match verdict_of(alloc, state, block)? {
-        Judgment::OtherForm => Ok(Judged::OtherForm),
-        Judgment::Differs => Ok(Judged::Differs),
-        Judgment::Accepted(next) => accepted(alloc, command, next),
+    match parsed(alloc, state) {
+        Ok(state) => judge_on(alloc, command, state, block),
+        Err(FormatFault::NoMemory) => Err(AllocError),
+        Err(FormatFault::At(At(place))) => {
+            let line = report::malformed(alloc, command.state, place)?;
+            Ok(Judged::BadState(line))
+        }
+        Err(FormatFault::NotYet(place)) => {
+            let line = report::not_yet(alloc, command.state, place)?;
+            Ok(Judged::BadState(line))
+        }
     }
 }
 
@@ -123,7 +144,8 @@ fn save<F: Files, K: Sink>(
     out: &mut K,
 ) -> Status
     ensures { Ends (view command.now) (done (view command.now) text.now next.now)
-        (seen_of (F.seen files.old) (K.seen out.old)) result (seen_of (F.seen files.new) (K.seen out.new)) }
+        (seen_of (F.seen files.old) (K.seen out.old)) result
+        (seen_of (F.seen files.new) (K.seen out.new)) }
 {
     match files.ready(alloc, command.next, next.len()) {
         Err(_) => {
@@ -152,19 +174,16 @@ fn finish<F: Files, K: Sink>(
     out: &mut K,
 ) -> Status
     ensures { Ends (view command.now) (answer_in (view command.now) judged.now)
-        (seen_of (F.seen files.old) (K.seen out.old)) result (seen_of (F.seen files.new) (K.seen out.new)) }
+        (seen_of (F.seen files.old) (K.seen out.old)) result
+        (seen_of (F.seen files.new) (K.seen out.new)) }
 {
     match judged {
-        Judged::StateOtherForm => {
-            report::other_form(out, command.state);
+        Judged::BadState(line) => {
+            report::say(out, line);
             Status::BadInput
         }
-        Judged::OtherForm => {
-            report::refused(out, "OtherForm");
-            Status::Refused
-        }
-        Judged::Differs => {
-            report::refused(out, "Differs");
+        Judged::Refused(line) => {
+            report::say(out, line);
             Status::Refused
         }
         Judged::NextTooLong => {
@@ -183,7 +202,8 @@ pub fn validate<F: Files, K: Sink>(
     out: &mut K,
 ) -> Status
     ensures { Validates (view command.now)
-        (seen_of (F.seen files.old) (K.seen out.old)) result (seen_of (F.seen files.new) (K.seen out.new)) }
+        (seen_of (F.seen files.old) (K.seen out.old)) result
+        (seen_of (F.seen files.new) (K.seen out.new)) }
 {
     match read_both(alloc, command, files) {
         Err(Stop::Memory) => {

@@ -1,31 +1,38 @@
 //! The verdict on a block.
-ghost use Rattle.std.specs.Prelude.{◌≡◌, IfOk, IfSome, Some, None, Ok, if◌then◌else◌};
-ghost use Rattle.block_codec.specs.Block.{IsTransfer};
-ghost use Rattle.block_cli.specs.Verdict.{same_receipt, stands_on, tells_run, state_after, verdict_on, verdict};
-ghost use Rattle.block_cli.specs.Inside.{verdict_in};
+ghost use Rattle.std.specs.Prelude.{◌≡◌, ◌↔◌, IfOk, IsTrue};
+ghost use Rattle.block_codec.specs.Block.{IsBlock};
+ghost use Rattle.join_schedule.specs.Joins.{AreJoins};
+ghost use Rattle.block_cli.specs.Verdict.{HaveOneVerdict, IsOrdered, IsVerdict, IsVerdictOn, StandsOn};
+ghost use Rattle.block_cli.specs.Judging.{OrdersOr, ConflictOr, verdict_in};
 
 use crate::next::Next;
-use block_codec::{Block, Published, Receipt, read_block};
-use byte_fields::FieldFault;
+use crate::refusal::Refusal;
+use crate::replay::replay;
+use block_codec::{Block, read_block};
+use byte_fields::At;
+use cell_names::FormatFault;
+use join_schedule::{bad_join, first_unordered};
 use ledger_state::State;
-use plain_transfers::{Overlay, Ran};
 use state_digest::digest;
 use std::alloc::{AllocError, Global};
 
 /// What a block is worth.
 #[derive(Drop)]
 pub enum Judgment {
-    /// It isn't a block of the form that is read.
-    OtherForm,
-    /// It tells something else than its serial run gives.
-    Differs,
+    /// It is refused.
+    Refused(Refusal),
     /// It is true, and this is the next state.
     Accepted(Next),
 }
 
+/// A state and bytes have one verdict.
+pub fn verdict_is_one()
+    ensures { HaveOneVerdict }
+{}
+
 /// Whether a block stands on a state.
 fn is_on(alloc: Global, state: &State, block: &Block) -> Result<bool, AllocError>
-    ensures { IfOk result (λ b. b ≡ stands_on state.now block.now) }
+    ensures { IfOk result (λ b. IsTrue b ↔ StandsOn state.now block.now) }
 {
     let digest = digest(alloc, state)?;
     let head = state.head();
@@ -36,60 +43,70 @@ fn is_on(alloc: Global, state: &State, block: &Block) -> Result<bool, AllocError
     )
 }
 
-/// Whether two receipts are the same.
-fn is_same(a: Receipt, b: Receipt) -> bool
-    ensures { result ≡ same_receipt a b }
+/// The first conflict that the joins leave without an order.
+fn conflict_in(alloc: Global, block: &Block) -> Result<Option<Refusal>, AllocError>
+    requires lawful { IsBlock block.now }
+    requires joins { AreJoins block.now.joins }
+    ensures { IfOk result (ConflictOr block.now) }
 {
-    a.applied == b.applied && a.gas == b.gas
+    match first_unordered(alloc, &block.joins, block.footprints.as_slice())? {
+        Some((earlier, later, cell)) => Ok(Some(Refusal::Unordered(earlier, later, cell))),
+        None => Ok(None),
+    }
 }
 
-/// The state after what a block publishes, where its footprint and its receipt are the run's. The
-/// state that it stands on is let go.
-fn state_of(alloc: Global, state: State, block: &Block) -> Result<Option<State>, AllocError>
-    requires { IfSome block.now.entry (λ e. IsTransfer e.op) }
-    ensures { let tells = tells_run state.balances block.now.entry in
-        IfOk result (λ next. next ≡ (if tells then Some (state_after state block.now) else None)) }
+/// Why a block has no place on a state, or its operations no order.
+fn disorder(alloc: Global, state: &State, block: &Block) -> Result<Option<Refusal>, AllocError>
+    requires { IsBlock block.now }
+    ensures { IfOk result (OrdersOr state.now block.now) }
 {
-    let mut balances = Overlay::new(alloc, &state);
-    if let Some(published) = &block.published {
-        let ran = balances.run(&published.op)?;
-        if !ran.footprint.is_listed(&published.footprint)
-            || !is_same(published.receipt, ran.receipt)
-        {
-            return Ok(None);
-        }
+    if !is_on(alloc, state, block)? {
+        return Ok(Some(Refusal::WrongParent));
     }
-    Ok(Some(balances.finish(alloc, block.head)?))
+    match bad_join(&block.joins) {
+        Some(operation) => Ok(Some(Refusal::BadJoin(operation))),
+        None => conflict_in(alloc, block),
+    }
 }
 
-/// The verdict on a block.
-fn verdict_on_block(alloc: Global, state: State, block: &Block) -> Result<Judgment, AllocError>
-    requires { IfSome block.now.entry (λ e. IsTransfer e.op) }
-    ensures { IfOk result (λ v. verdict_in v ≡ verdict_on state (Ok block.now)) }
+/// The verdict on a block whose operations are ordered.
+fn verdict_on_run(alloc: Global, state: State, block: &Block) -> Result<Judgment, AllocError>
+    requires lawful { IsBlock block.now }
+    requires ordered { IsOrdered state block.now }
+    ensures { IfOk result (λ v. IsVerdictOn state block.now (verdict_in v)) }
 {
-    if !is_on(alloc, &state, block)? {
-        return Ok(Judgment::Differs);
-    }
-    match state_of(alloc, state, block)? {
-        None => Ok(Judgment::Differs),
-        Some(state) => {
-            let next = Next::new(alloc, state)?;
+    match replay(alloc, state, block)? {
+        Err(why) => Ok(Judgment::Refused(why)),
+        Ok(after) => {
+            let next = Next::new(alloc, after)?;
             if next.digest == block.state {
                 Ok(Judgment::Accepted(next))
             } else {
-                Ok(Judgment::Differs)
+                Ok(Judgment::Refused(Refusal::StateDiffers))
             }
         }
     }
 }
 
+/// The verdict on a block.
+fn verdict_on(alloc: Global, state: State, block: &Block) -> Result<Judgment, AllocError>
+    requires { IsBlock block.now }
+    ensures { IfOk result (λ v. IsVerdictOn state block.now (verdict_in v)) }
+{
+    match disorder(alloc, &state, block)? {
+        Some(why) => Ok(Judgment::Refused(why)),
+        None => verdict_on_run(alloc, state, block),
+    }
+}
+
 /// The verdict on the bytes of a block. The state is let go once the next one stands.
 pub fn verdict_of(alloc: Global, state: State, bytes: &[u8]) -> Result<Judgment, AllocError>
-    ensures { IfOk result (λ v. verdict_in v ≡ verdict state bytes.now) }
+    ensures { IfOk result (λ v. IsVerdict state bytes.now (verdict_in v)) }
 {
     match read_block(alloc, bytes) {
-        Err(FieldFault::NoMemory) => Err(AllocError),
-        Err(FieldFault::At(_)) => Ok(Judgment::OtherForm),
-        Ok(block) => verdict_on_block(alloc, state, &block),
+        Err(FormatFault::NoMemory) => Err(AllocError),
+        Err(FormatFault::At(At(place))) => Ok(Judgment::Refused(Refusal::Malformed(place))),
+        Err(FormatFault::NotYet(place)) => Ok(Judgment::Refused(Refusal::NotYet(place))),
+        Ok(block) => verdict_on(alloc, state, &block),
     }
 }

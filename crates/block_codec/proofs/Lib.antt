@@ -1,2 +1,3 @@
-pub mod FieldLaws
-pub mod BlockLaws
+pub mod Items
+pub mod OperationLaw
+pub mod BlockLaw

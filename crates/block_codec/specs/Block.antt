@@ -1,31 +1,23 @@
--- Blocks of at most one plain transfer, and which of them are lawful.
-use Rattle.std.specs.Prelude.{◌≡◌, ℕ, ◌<◌, ◌≤◌, ◌^◌, List, length, map, All, Option, IfSome, IsTrue}
-use Rattle.std.specs.Ordering.{nat_cmp}
-use Rattle.std.specs.Cmp.Lexicographic.{slice_cmp}
-use Rattle.std.specs.FinMap.{is_sorted}
-use Rattle.ledger_state.specs.Ledger.{IsImplicit}
-use Rattle.block_codec.specs.declared.transfer.Mode.{Mode}
-use Rattle.block_codec.specs.declared.transfer.Touch.{Touch}
+-- Blocks of plain transfers, and which of them have a spelling.
+use Rattle.std.specs.Prelude.{◌≡◌, ℕ, ◌<◌, ◌≤◌, ◌^◌, List, length, map, sum}
+use Rattle.std.specs.List.{AllByRecursion}
+use Rattle.cell_names.specs.Accounts.{IsImplicit}
+use Rattle.cell_names.specs.declared.cell.Cell.{Cell}
+use Rattle.cell_names.specs.declared.mode.Mode.{Mode}
+use Rattle.cell_names.specs.Spelling.{IsFootprint}
 use Rattle.block_codec.specs.declared.transfer.Transfer.{Transfer}
 use Rattle.block_codec.specs.declared.transfer.Receipt.{Receipt}
-
--- a transfer with what a block says of it
-pub record Entry : Type 0 where
-  pub op : Transfer
-  pub footprint : List Touch
-  pub receipt : Receipt
 
 -- a block, as contracts see it
 pub record BlockView : Type 0 where
   pub parent : List ℕ
   pub level : ℕ
   pub now : ℕ
-  pub entry : Option Entry
+  pub ops : List Transfer
+  pub joins : List (List ℕ)
+  pub footprints : List (List (Cell × Mode))
+  pub receipts : List Receipt
   pub state : List ℕ
-
--- a touched cell with its mode, as a footprint that is a map has it
-abbrev pub cell_of : Touch → List ℕ × Mode
-cell_of t = (t.address, t.mode)
 
 -- which transfers are lawful
 pub record IsTransfer (t : Transfer) : Type 0 where
@@ -35,22 +27,27 @@ pub record IsTransfer (t : Transfer) : Type 0 where
   pub gas : t.gas ≤ 100000000
   pub turns : t.turns ≤ 1000000
 
--- at most two cells, strictly ascending
-pub record IsFootprint (f : List Touch) : Type 0 where
-  pub few : length f ≤ 2
-  pub ascend : IsTrue (is_sorted (slice_cmp nat_cmp) (map cell_of f))
-  pub accounts : All (λ t. IsImplicit t.address) f
+-- the gas that operations may use together
+abbrev pub gas_of : List Transfer → ℕ
+gas_of ops = sum (map (λ t. t.gas) ops)
 
--- a lawful transfer with its footprint and receipt
-pub record IsEntry (e : Entry) : Type 0 where
-  pub op : IsTransfer e.op
-  pub footprint : IsFootprint e.footprint
-  pub gas : e.receipt.gas < 2 ^ 32
+-- at most 512 numbers, whatever they are
+pub record IsList (list : List ℕ) : Type 0 where
+  pub few : length list ≤ 512
+  pub numbers : AllByRecursion (λ n. n < 2 ^ 32) list
 
--- what has a spelling
+-- what has a spelling: each operation with its joins, its footprint and its receipt
 pub record IsBlock (b : BlockView) : Type 0 where
   pub parent : length b.parent ≡ 32
   pub level : b.level < 2 ^ 32
   pub now : b.now < 2 ^ 64
-  pub entry : IfSome b.entry IsEntry
+  pub few : length b.ops ≤ 512
+  pub ops : AllByRecursion IsTransfer b.ops
+  pub gas : gas_of b.ops ≤ 1000000000
+  pub joined : length b.joins ≡ length b.ops
+  pub joins : AllByRecursion IsList b.joins
+  pub touched : length b.footprints ≡ length b.ops
+  pub footprints : AllByRecursion IsFootprint b.footprints
+  pub ended : length b.receipts ≡ length b.ops
+  pub receipts : AllByRecursion (λ r. r.gas < 2 ^ 32) b.receipts
   pub state : length b.state ≡ 32

@@ -1,4 +1,5 @@
 -- what the public contracts rest on
 pub mod Block
 pub mod Spelling
-pub mod Place
+pub mod Operation
+pub mod Reading

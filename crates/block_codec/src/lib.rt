@@ -1,25 +1,30 @@
-//! Blocks of at most one plain transfer, and their bytes.
+//! Blocks of plain transfers, and their bytes.
 //!
 //! A block names the state that it stands on and the one that it leads to by their digests. It
-//! publishes operations, and for each the cells that it touched, with their modes, and its receipt.
+//! publishes up to 512 operations, and of each the earlier operations that it is joined to, the
+//! cells that it touched, with their modes, and its receipt.
 //!
-//! - `transfer`: modes, touches, transfers and receipts, plain data. Begin here.
-//! - `block`: what a block publishes of a transfer, and the block.
-//! - `writer`, `reader`: its bytes, for which `specs/Spelling.antt` has the one spelling of each block.
+//! - `transfer`: transfers and receipts, plain data. Begin here.
+//! - `block`: the block, whose parts have a place for each operation.
+//! - `writer`, `reader`: its bytes, for which `specs/Spelling.antt` has the one spelling of each
+//!   block; `fields` reads the operations' fields.
 //!
-//! The first form of a block has no operation or one transfer, from and to implicit accounts, at the
-//! entry `default` with the param Unit.
+//! A block of a later form may call a contract. A reader that comes to a field of such a block that
+//! is lawful and isn't built, where all before it keeps the rules, answers `NotYet` with its place.
+//! The order and range of join lists are no part of the bytes: `join_schedule` judges them.
 #![tactic(auto)]
 
 mod block;
+mod fields;
 mod reader;
 #[cfg(test)]
 mod tests;
 mod transfer;
 mod writer;
 
-pub use block::{Block, Published};
-pub use byte_fields::{At, FieldFault};
+pub use block::Block;
+pub use byte_fields::At;
+pub use cell_names::FormatFault;
 pub use reader::read_block;
-pub use transfer::{Mode, Receipt, Touch, Transfer};
+pub use transfer::{Receipt, Transfer};
 pub use writer::write_block;

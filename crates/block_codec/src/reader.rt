@@ -1,202 +1,37 @@
 //! Reading a block.
 
-ghost use Rattle.std.specs.Prelude.{◌≡◌, ◌≤◌, ◌^◌, ◌-◌, [], IfOk};
-ghost use Rattle.std.specs.Int.{w8, w32, w64};
-ghost use Rattle.byte_fields.specs.Told.{Gives, Tells};
-ghost use Rattle.ledger_state.specs.Place.{address};
+ghost use Rattle.std.specs.Prelude.{◌≡◌, [], IfOk};
+ghost use Rattle.byte_fields.specs.Told.{Gives};
+ghost use Rattle.cell_names.specs.Answers.{Answers, IsTold};
+ghost use Rattle.cell_names.specs.Partial.{many};
+ghost use Rattle.cell_names.specs.Reading.{footprint_or_later};
 ghost use Rattle.block_codec.specs.Block.{BlockView, IsBlock};
-ghost use Rattle.block_codec.specs.Place.{block, block_of, entries, entry, footprint, mode, mode_from, op, published, receipt, small, terms, touch, touches};
 ghost use Rattle.block_codec.specs.Spelling.{spelling};
+ghost use Rattle.block_codec.specs.Reading.{block, block_from, block_of, list, numbers, ops, parts, published, receipt, small, tag};
 
-use crate::block::{Block, Published};
-use crate::transfer::{Mode, Receipt, Touch, Transfer};
-use byte_fields::{FieldFault, ReadStop, array_at, fault_at, mark_of, u8_at, u32_at, u64_at};
-use ledger_state::{Head, address_at, name_at};
+use crate::block::Block;
+use crate::fields::op_at;
+use crate::transfer::{Receipt, Transfer};
+use byte_fields::{ReadStop, array_at, mark_of, u8_at, u32_at, u64_at};
+use cell_names::{Footprint, FormatFault, FormatStop, Head, fault_at, footprint_at};
+use join_schedule::Joins;
 use std::alloc::Global;
+use std::marker::Model;
 
-/// An amount is at most so much.
-const MOST_AMOUNT: u64 = (1 << 63) - 1;
-
-fn small_u8(most: u8, bytes: &[u8]) -> Result<(u8, &[u8]), ReadStop>
-    ensures { Gives (λ x. (x.0, x.1.now)) result (small w8 most bytes.now) }
+/// The block that all of the bytes spell.
+pub fn read_block(alloc: Global, bytes: &[u8]) -> Result<Block, FormatFault>
+    // What is read is spelt so.
+    ensures found { IfOk result (λ b. IsBlock b × (bytes.now ≡ spelling b)) }
+    // What is spelt so is read, unless memory runs out.
+    ensures only { (b : BlockView) → IsBlock b → bytes.now ≡ spelling b → IsTold result (Ok b) }
+    // Which fault it is, or which field isn't built.
+    ensures place { IsTold result (block_of bytes.now) }
 {
-    let (number, rest) = u8_at(bytes)?;
-    if number > most {
-        return Err(ReadStop::Left(bytes.len()));
-    }
-    Ok((number, rest))
+    told_block(alloc, bytes)
 }
 
-fn small_u32(most: u32, bytes: &[u8]) -> Result<(u32, &[u8]), ReadStop>
-    ensures { Gives (λ x. (x.0, x.1.now)) result (small w32 most bytes.now) }
-{
-    let (number, rest) = u32_at(bytes)?;
-    if number > most {
-        return Err(ReadStop::Left(bytes.len()));
-    }
-    Ok((number, rest))
-}
-
-fn small_u64(most: u64, bytes: &[u8]) -> Result<(u64, &[u8]), ReadStop>
-    ensures { Gives (λ x. (x.0, x.1.now)) result (small w64 most bytes.now) }
-{
-    let (number, rest) = u64_at(bytes)?;
-    if number > most {
-        return Err(ReadStop::Left(bytes.len()));
-    }
-    Ok((number, rest))
-}
-
-/// Amount, gas and turns, behind the entry `default` and the param Unit.
-#[tactic(auto, unfolding(crate::specs::Place::terms))]
-fn terms_at(bytes: &[u8]) -> Result<((u64, u32, u32), &[u8]), ReadStop>
-    ensures { Gives (λ x. ((x.0.0, (x.0.1, x.0.2)), x.1.now)) result (terms bytes.now) }
-{
-    let rest = mark_of(&[7], bytes)?;
-    let rest = mark_of(b"default", rest)?;
-    let rest = mark_of(&[0], rest)?;
-    let (amount, rest) = small_u64(MOST_AMOUNT, rest)?;
-    let (gas, rest) = small_u32(100_000_000, rest)?;
-    let (turns, rest) = small_u32(1_000_000, rest)?;
-    Ok(((amount, gas, turns), rest))
-}
-
-#[tactic(auto, unfolding(crate::specs::Place::op))]
-fn op_at(bytes: &[u8]) -> Result<(Transfer, &[u8]), ReadStop>
-    ensures { Gives (λ x. (x.0, x.1.now)) result (op bytes.now) }
-{
-    let (source, rest) = address_at(bytes)?;
-    let (dest, rest) = address_at(rest)?;
-    let ((amount, gas, turns), rest) = terms_at(rest)?;
-    let op = Transfer {
-        source,
-        dest,
-        amount,
-        gas,
-        turns,
-    };
-    Ok((op, rest))
-}
-
-fn mode_of(number: u8) -> Mode
-    ensures { result ≡ mode_from number }
-{
-    match number {
-        0 => Mode::Read,
-        1 => Mode::Credit,
-        _ => Mode::Own,
-    }
-}
-
-#[tactic(auto, unfolding(crate::specs::Place::mode))]
-fn mode_at(bytes: &[u8]) -> Result<(Mode, &[u8]), ReadStop>
-    ensures { Gives (λ x. (x.0, x.1.now)) result (mode bytes.now) }
-{
-    let (number, rest) = small_u8(2, bytes)?;
-    Ok((mode_of(number), rest))
-}
-
-#[tactic(auto, unfolding(crate::specs::Place::touch))]
-fn touch_at(last: Option<[u8; 22]>, bytes: &[u8]) -> Result<(Touch, &[u8]), ReadStop>
-    ensures { Gives (λ x. (x.0, x.1.now)) result (touch last bytes.now) }
-{
-    let (address, rest) = name_at(last, bytes)?;
-    let (mode, rest) = mode_at(rest)?;
-    Ok((Touch { address, mode }, rest))
-}
-
-fn touches_at(alloc: Global, count: u32, bytes: &[u8]) -> Result<(Vec<Touch>, &[u8]), ReadStop>
-    ensures { Gives (λ x. (x.0.items, x.1.now)) result (touches count bytes.now) }
-{
-    let mut touches = Vec::new(alloc);
-    let mut last = None;
-    let mut rest = bytes;
-    for _ in 0..count {
-        let (touch, after) = touch_at(last, rest)?;
-        last = Some(touch.address);
-        touches.push(touch)?;
-        rest = after;
-    }
-    Ok((touches, rest))
-}
-
-#[tactic(auto, unfolding(crate::specs::Place::footprint))]
-fn footprint_at(alloc: Global, bytes: &[u8]) -> Result<(Vec<Touch>, &[u8]), ReadStop>
-    ensures { Gives (λ x. (x.0.items, x.1.now)) result (footprint bytes.now) }
-{
-    let (count, rest) = small_u32(2, bytes)?;
-    touches_at(alloc, count, rest)
-}
-
-#[tactic(auto, unfolding(crate::specs::Place::receipt))]
-fn receipt_at(bytes: &[u8]) -> Result<(Receipt, &[u8]), ReadStop>
-    ensures { Gives (λ x. (x.0, x.1.now)) result (receipt bytes.now) }
-{
-    let (tag, rest) = small_u8(1, bytes)?;
-    let (gas, rest) = u32_at(rest)?;
-    let applied = tag == 0;
-    Ok((Receipt { applied, gas }, rest))
-}
-
-#[tactic(auto, unfolding(crate::specs::Place::entry))]
-fn entry_at(alloc: Global, bytes: &[u8]) -> Result<(Published, &[u8]), ReadStop>
-    ensures { Gives (λ x. (x.0, x.1.now)) result (entry bytes.now) }
-{
-    let (op, rest) = op_at(bytes)?;
-    let rest = mark_of(&[0, 0, 0, 0], rest)?;
-    let (footprint, rest) = footprint_at(alloc, rest)?;
-    let (receipt, rest) = receipt_at(rest)?;
-    let published = Published {
-        op,
-        footprint,
-        receipt,
-    };
-    Ok((published, rest))
-}
-
-#[tactic(auto, unfolding(crate::specs::Place::published))]
-fn some_entry_at(alloc: Global, bytes: &[u8]) -> Result<(Option<Published>, &[u8]), ReadStop>
-    ensures { Gives (λ x. (x.0, x.1.now)) result (published 1 bytes.now) }
-{
-    let (published, rest) = entry_at(alloc, bytes)?;
-    Ok((Some(published), rest))
-}
-
-#[tactic(auto, unfolding(crate::specs::Place::published))]
-fn entries_at(alloc: Global, bytes: &[u8]) -> Result<(Option<Published>, &[u8]), ReadStop>
-    ensures { Gives (λ x. (x.0, x.1.now)) result (entries bytes.now) }
-{
-    let (count, rest) = small_u32(1, bytes)?;
-    if count == 0 {
-        return Ok((None, rest));
-    }
-    some_entry_at(alloc, rest)
-}
-
-#[tactic(auto, unfolding(crate::specs::Place::block))]
-fn block_at(alloc: Global, bytes: &[u8]) -> Result<Block, ReadStop>
-    ensures { Gives (λ b. (b, [])) result (block bytes.now) }
-{
-    let rest = mark_of(b"FJB1", bytes)?;
-    let (parent, rest) = array_at::<32>(rest)?;
-    let (level, rest) = u32_at(rest)?;
-    let (now, rest) = u64_at(rest)?;
-    let (published, rest) = entries_at(alloc, rest)?;
-    let (state, rest) = array_at::<32>(rest)?;
-    if !rest.is_empty() {
-        return Err(ReadStop::Left(rest.len()));
-    }
-    let head = Head { level, now };
-    Ok(Block {
-        parent,
-        head,
-        published,
-        state,
-    })
-}
-
-fn told_block(alloc: Global, bytes: &[u8]) -> Result<Block, FieldFault>
-    ensures { Tells result (block_of bytes.now) }
+fn told_block(alloc: Global, bytes: &[u8]) -> Result<Block, FormatFault>
+    ensures { IsTold result (block_of bytes.now) }
 {
     match block_at(alloc, bytes) {
         Ok(block) => Ok(block),
@@ -204,14 +39,218 @@ fn told_block(alloc: Global, bytes: &[u8]) -> Result<Block, FieldFault>
     }
 }
 
-/// The block that all of the bytes spell.
-pub fn read_block(alloc: Global, bytes: &[u8]) -> Result<Block, FieldFault>
-    // What is read is spelt so.
-    ensures found { IfOk result (λ b. IsBlock b × (bytes.now ≡ spelling b)) }
-    // What is spelt so is read, unless memory runs out.
-    ensures only { (b : BlockView) → IsBlock b → bytes.now ≡ spelling b → Tells result (Ok b) }
-    // Which fault it is.
-    ensures place { Tells result (block_of bytes.now) }
+/// The fields of a block, and nothing behind them.
+#[tactic(auto, unfolding(crate::specs::Reading::block))]
+fn block_at(alloc: Global, bytes: &[u8]) -> Result<Block, FormatStop>
+    ensures { Answers (λ b. (b, [])) result (block bytes.now) }
 {
-    told_block(alloc, bytes)
+    let rest = mark_of(b"FJB1", bytes)?;
+    let (parent, rest) = array_at::<32>(rest)?;
+    let (level, rest) = u32_at(rest)?;
+    let (now, rest) = u64_at(rest)?;
+    let (published, rest) = published_at(alloc, rest)?;
+    let (state, rest) = array_at::<32>(rest)?;
+    if !rest.is_empty() {
+        return Err(FormatStop::Left(rest.len()));
+    }
+    let head = Head { level, now };
+    Ok(block_from(parent, head, published, state))
+}
+
+fn block_from(parent: [u8; 32], head: Head, published: Published, state: [u8; 32]) -> Block
+    ensures { result ≡ block_from (parent, (head.level, (head.now, (published, state)))) }
+{
+    let Published {
+        ops,
+        joins,
+        footprints,
+        receipts,
+    } = published;
+    Block {
+        parent,
+        head,
+        ops,
+        joins,
+        footprints,
+        receipts,
+        state,
+    }
+}
+
+/// What a block publishes: the operations, and the joins, footprints and receipts of each.
+#[derive(Drop)]
+struct Published {
+    ops: Vec<Transfer>,
+    joins: Joins,
+    footprints: Vec<Footprint>,
+    receipts: Vec<Receipt>,
+}
+
+impl Model for Published {
+    ghost use Rattle.block_codec.specs.Reading.{Parts};
+
+    ghost Value = { Parts };
+
+    ghost view = { λ p. (p.ops.items, (p.joins, (p.footprints.items, p.receipts.items))) };
+}
+
+/// How many operations, and their parts.
+fn published_at(alloc: Global, bytes: &[u8]) -> Result<(Published, &[u8]), FormatStop>
+    ensures { Answers (λ x. (x.0, x.1.now)) result (published bytes.now) }
+{
+    let (count, rest) = small_at(bytes)?;
+    parts_at(alloc, count, rest)
+}
+
+/// The parts of so many operations.
+#[tactic(auto, unfolding(crate::specs::Reading::parts))]
+fn parts_at(alloc: Global, count: u32, bytes: &[u8]) -> Result<(Published, &[u8]), FormatStop>
+    ensures { Answers (λ x. (x.0, x.1.now)) result (parts count bytes.now) }
+{
+    let (ops, rest) = ops_at(alloc, count, bytes)?;
+    let (joins, rest) = joins_at(alloc, count, rest)?;
+    let (footprints, rest) = footprints_at(alloc, count, rest)?;
+    let (receipts, rest) = receipts_at(alloc, count, rest)?;
+    let published = Published {
+        ops,
+        joins,
+        footprints,
+        receipts,
+    };
+    Ok((published, rest))
+}
+
+/// So many operations, whose gas together stays within a block's.
+fn ops_at(alloc: Global, count: u32, bytes: &[u8]) -> Result<(Vec<Transfer>, &[u8]), FormatStop>
+    ensures { Answers (λ x. (x.0.items, x.1.now)) result (ops count bytes.now) }
+{
+    let mut ops = Vec::new(alloc);
+    let mut total = 0;
+    let mut rest = bytes;
+    for _ in 0..count {
+        match op_at(total, rest) {
+            Ok((op, after)) => {
+                total += op.gas;
+                ops.push(op)?;
+                rest = after;
+            }
+            Err(stop) => return Err(stop),
+        }
+    }
+    Ok((ops, rest))
+}
+
+/// So many lists of joins.
+fn joins_at(alloc: Global, count: u32, bytes: &[u8]) -> Result<(Joins, &[u8]), FormatStop>
+    ensures { Answers (λ x. (x.0, x.1.now)) result (many list count bytes.now) }
+{
+    let mut lists: Vec<Vec<u32>> = Vec::new(alloc);
+    let mut rest = bytes;
+    for _ in 0..count {
+        match list_at(alloc, rest) {
+            Ok((list, after)) => {
+                lists.push(list)?;
+                rest = after;
+            }
+            Err(stop) => return Err(stop),
+        }
+    }
+    Ok((Joins::new(lists), rest))
+}
+
+/// A count, and so many numbers.
+fn list_at(alloc: Global, bytes: &[u8]) -> Result<(Vec<u32>, &[u8]), FormatStop>
+    ensures { Answers (λ x. (x.0.items, x.1.now)) result (list bytes.now) }
+{
+    let (count, rest) = small_at(bytes)?;
+    let (all, rest) = numbers_at(alloc, count, rest)?;
+    Ok((all, rest))
+}
+
+fn numbers_at(alloc: Global, count: u32, bytes: &[u8]) -> Result<(Vec<u32>, &[u8]), ReadStop>
+    ensures { Gives (λ x. (x.0.items, x.1.now)) result (numbers count bytes.now) }
+{
+    let mut all = Vec::new(alloc);
+    let mut rest = bytes;
+    for _ in 0..count {
+        match u32_at(rest) {
+            Ok((number, after)) => {
+                all.push(number)?;
+                rest = after;
+            }
+            Err(stop) => return Err(stop),
+        }
+    }
+    Ok((all, rest))
+}
+
+fn footprints_at(
+    alloc: Global,
+    count: u32,
+    bytes: &[u8],
+) -> Result<(Vec<Footprint>, &[u8]), FormatStop>
+    ensures { Answers (λ x. (x.0.items, x.1.now)) result (many footprint_or_later count bytes.now) }
+{
+    let mut footprints: Vec<Footprint> = Vec::new(alloc);
+    let mut rest = bytes;
+    for _ in 0..count {
+        match footprint_at(alloc, rest) {
+            Ok((footprint, after)) => {
+                footprints.push(footprint)?;
+                rest = after;
+            }
+            Err(stop) => return Err(stop),
+        }
+    }
+    Ok((footprints, rest))
+}
+
+fn receipts_at(alloc: Global, count: u32, bytes: &[u8]) -> Result<(Vec<Receipt>, &[u8]), FormatStop>
+    ensures { Answers (λ x. (x.0.items, x.1.now)) result (many receipt count bytes.now) }
+{
+    let mut receipts = Vec::new(alloc);
+    let mut rest = bytes;
+    for _ in 0..count {
+        match receipt_at(rest) {
+            Ok((receipt, after)) => {
+                receipts.push(receipt)?;
+                rest = after;
+            }
+            Err(stop) => return Err(stop),
+        }
+    }
+    Ok((receipts, rest))
+}
+
+#[tactic(auto, unfolding(crate::specs::Reading::receipt))]
+fn receipt_at(bytes: &[u8]) -> Result<(Receipt, &[u8]), FormatStop>
+    ensures { Answers (λ x. (x.0, x.1.now)) result (receipt bytes.now) }
+{
+    let (tag, rest) = tag_at(bytes)?;
+    let (gas, rest) = u32_at(rest)?;
+    let applied = tag == 0;
+    Ok((Receipt { applied, gas }, rest))
+}
+
+/// The tag of a receipt.
+fn tag_at(bytes: &[u8]) -> Result<(u8, &[u8]), FormatStop>
+    ensures { Answers (λ x. (x.0, x.1.now)) result (tag bytes.now) }
+{
+    let (number, rest) = u8_at(bytes)?;
+    match number {
+        0 | 1 => Ok((number, rest)),
+        2..=14 => Err(FormatStop::NotYet(bytes.len())),
+        _ => Err(FormatStop::Left(bytes.len())),
+    }
+}
+
+/// A number of at most 512.
+fn small_at(bytes: &[u8]) -> Result<(u32, &[u8]), FormatStop>
+    ensures { Answers (λ x. (x.0, x.1.now)) result (small bytes.now) }
+{
+    let (number, rest) = u32_at(bytes)?;
+    if number > 512 {
+        return Err(FormatStop::Left(bytes.len()));
+    }
+    Ok((number, rest))
 }

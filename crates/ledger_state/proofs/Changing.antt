@@ -8,8 +8,9 @@ use Rattle.std.specs.Cmp.{IsTotalOrder, first_so, alike_right, eq_by_cmp_equiv, 
 use Rattle.std.specs.Cmp.Lexicographic.{slice_cmp, nat_list_cmp_total}
 use Rattle.std.specs.FinMap.{keys, values, get, insert, remove, entries, from_sorted, is_sorted, put, IsAntisymmetric, slice_cmp-IsAntisymmetric, nat_cmp-IsAntisymmetric, same_map, get-remove, get-entries, get-from_sorted, entries_sorted, entries-insert, entries-from_sorted}
 use Rattle.std.specs.FinMap.Entries.{below_all, where_key, by_order, is_sorted-where_key, find-where_key}
+use Rattle.cell_names.specs.Accounts.{IsImplicit}
 use Rattle.ledger_state.specs.declared.holding.Holding.{Holding}
-use Rattle.ledger_state.specs.Ledger.{Balances, AreBalances, IsImplicit, with_balance, changed, supply, pair}
+use Rattle.ledger_state.specs.Ledger.{Balances, AreBalances, with_balance, changed, supply, pair}
 use Rattle.std.proofs.lemmas.Bool.{eqb-false}
 use Rattle.std.proofs.lemmas.List.Elements.{All-from_recursion, recursion_from_All}
 use Rattle.ledger_state.proofs.Ascending.{second_so, both_so, lt_is, greater_is, below_all_less, are_below, are_before, are_before-next}

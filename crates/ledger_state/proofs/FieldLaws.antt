@@ -1,71 +1,156 @@
--- The law of the fields of a cell.
-use Rattle.std.proofs.Common.{ℕ, ◌+◌, ◌<◌, ◌^◌, eqb, ltb, List, [], ◌∷◌, ◌++◌, length, Option, None, refl, arith}
-use Rattle.std.specs.Prelude.{IsTrue, slice_index, ◌&&◌}
+-- The law of the fields of a file.
+use Rattle.std.proofs.Common.{◌≡◌, ℕ, suc, ◌+◌, ◌<◌, ◌^◌, true, eqb, List, ◌∷◌, ◌++◌, length, Option, None, refl, sym, ap, ◌∙◌, arith}
+use Rattle.std.specs.Prelude.{IsTrue, slice_index, nat_le}
 use Rattle.std.specs.List.{flat_map}
 use Rattle.std.specs.Cmp.{first_so}
 use Rattle.std.specs.Int.{w32, w64, to_be_bytes}
-use Rattle.std.proofs.lemmas.Bool.{eqb-true, eq-eqb, ltb-true, lt-ltb}
-use Rattle.byte_fields.specs.Readers.{Reader}
-use Rattle.byte_fields.specs.Laws.{Reads}
-use Rattle.byte_fields.specs.Order.{is_above}
-use Rattle.byte_fields.proofs.Digits.{wide32, wide64}
-use Rattle.byte_fields.proofs.Numbers.{run_reads, number_reads, mark_reads}
-use Rattle.byte_fields.proofs.Joined.{reads_as, checked_reads, made_reads, both_reads, with_reads}
-use Rattle.byte_fields.proofs.Lists.{GoodItems, chained_reads}
+use Rattle.std.proofs.lemmas.Bool.{eqb-true, eq-eqb, ltb-true, lt-ltb, le-leb}
+use Rattle.byte_fields.specs.Readers.{number}
+use Rattle.byte_fields.proofs.Digits.{wide32}
+use Rattle.byte_fields.proofs.Numbers.{number_reads}
+use Rattle.byte_fields.proofs.Lists.{GoodItems}
+use Rattle.value_core.specs.declared.val.Val.{Val}
+use Rattle.value_core.specs.declared.val.Val.TheVariants as variant
+use Rattle.value_core.specs.declared.val.Val.TheOpen as one
+use Rattle.value_core.specs.declared.val.Val.TheViews.{out-Val, roll-Val}
+use Rattle.value_core.specs.Layer.{Layer}
+use Rattle.value_core.specs.Leaves.{is_address}
+use Rattle.value_core.proofs.Levels.{out-roll, roll-out}
+use Rattle.value_codec.specs.Reading.{value}
+use Rattle.value_codec.specs.Spelling.{spell}
+use Rattle.value_codec.proofs.Levels.{IsGood, good_at}
+use Rattle.value_codec.proofs.Spelt.{spell_mutez}
+use Rattle.value_codec.proofs.Laws.{value_reads}
+use Rattle.cell_names.specs.declared.cell.Cell.{Cell}
+use Rattle.cell_names.specs.declared.cell.Cell.TheVariants.{Balance}
+use Rattle.cell_names.specs.Accounts.{IsImplicit, is_implicit}
+use Rattle.cell_names.specs.Cells.{address_of}
+use Rattle.cell_names.specs.Partial.{made, checked, plain, with}
+use Rattle.cell_names.specs.Reading.{is_above}
+use Rattle.cell_names.specs.Spelling.{spell_cell, IsCell}
+use Rattle.cell_names.proofs.Forget.{ReadsPart, reads_plain, reads_same, reads_made, reads_both, reads_with, reads_checked, reads_built, reads_chained}
+use Rattle.cell_names.proofs.NotYet.{reads_cell}
 use Rattle.ledger_state.specs.declared.holding.Holding.{Holding}
-use Rattle.ledger_state.specs.Ledger.{IsImplicit, pair}
+use Rattle.ledger_state.specs.Ledger.{pair}
 use Rattle.ledger_state.specs.Spelling.{cell}
-use Rattle.ledger_state.specs.Place.{Before, next, behind, address, name, small, amount, holding, cells, book}
+use Rattle.ledger_state.specs.Reading.{Before, next, amount_level, amount_of, is_room, fits, name, amount, holding, cells, contracts, book}
 use Rattle.ledger_state.proofs.Ascending.{second_so, both_so}
 
-pub behind_reads : {A : Type 0} {read : Reader A} {spell : A → List ℕ} {Good : A → Type 0} (text : List ℕ) → Reads read spell Good → Reads (behind text read) (λ a. text ++ spell a) Good
-behind_reads {A} {read} {spell} {Good} text r =
-    made_reads (λ (p : Unit {0} × A). p.1) (λ a. (tt, a)) (λ a. text ++ spell a) Good (λ p good. (refl, good.1)) (λ a good. ((tt, good), refl)) (both_reads (mark_reads text) r)
+-- ---- amounts
 
-pub address_reads : Reads address (λ a. a) IsImplicit
-address_reads =
-    reads_as (λ a. a) IsImplicit
-    (λ a good. (refl, record { long = good.0; implicit = eqb-true (slice_index a 0) 0 good.1 }))
-    (λ a good. (good.long, eq-eqb (slice_index a 0) 0 good.implicit))
-    (checked_reads (λ a. eqb (slice_index a 0) 0) (run_reads 22))
+level_is : (x : Layer Val) → 0 < amount_level x → x ≡ one.Mutez (amount_level x)
+level_is (one.Mutez n) some = refl
+level_is _ some = absurd (omega arith)
 
--- an implicit account above the last one
-abbrev pub IsNext : Option (List ℕ) → List ℕ → Type 0
-IsNext last a = IsImplicit a × IsTrue (is_above last a)
+-- a value that is money is that amount
+value_is : (v : Val) → 0 < amount_of v → v ≡ variant.Mutez (amount_of v)
+value_is v some = sym (roll-out v) ∙ ap roll-Val (level_is (out-Val v) some) ∙ variant.rolls-Mutez (amount_of v)
 
-pub name_reads : (last : Option (List ℕ)) → Reads (name last) (λ a. 0 ∷ a) (IsNext last)
-name_reads last = checked_reads (is_above last) (behind_reads (0 ∷ []) address_reads)
+amount_of-Mutez : (n : ℕ) → amount_of (variant.Mutez n) ≡ n
+amount_of-Mutez n = ap amount_of (sym (variant.rolls-Mutez n)) ∙ ap amount_level (out-roll (one.Mutez n))
 
-pub small_reads : Reads small (to_be_bytes w64) (λ n. n < 2 ^ 63)
-small_reads =
-    reads_as (to_be_bytes w64) (λ n. n < 2 ^ 63) (λ n good. (refl, ltb-true n (2 ^ 63) good.1)) (λ n good. (omega arith, lt-ltb n (2 ^ 63) good))
-    (checked_reads (λ n. ltb n (2 ^ 63)) (number_reads w64 (2 ^ 64) wide64))
+mutez_good : (d n : ℕ) → n < 2 ^ 63 → IsGood (suc d) (variant.Mutez n)
+mutez_good d n small = good_at d (one.Mutez n) _ (variant.rolls-Mutez n) (record { sound = lt-ltb n (2 ^ 63) small; settled = refl; leaf = refl }) tt
 
 -- an amount above 0 with which the supply stays below 2^63
 abbrev pub IsRoom : ℕ → ℕ → Type 0
 IsRoom total n = (0 < n) × (total + n < 2 ^ 63)
 
-pub amount_reads : (total : ℕ) → Reads (amount total) (λ n. 5 ∷ to_be_bytes w64 n) (IsRoom total)
-amount_reads total =
-    reads_as (λ n. 5 ∷ to_be_bytes w64 n) (IsRoom total)
-    (λ n good. (refl, (ltb-true 0 n (first_so _ _ good.1), ltb-true (total + n) (2 ^ 63) (second_so _ _ good.1))))
-    (λ n good. (omega (arith, good.1), both_so _ _ (lt-ltb 0 n good.0) (lt-ltb (total + n) (2 ^ 63) good.1)))
-    (checked_reads (λ n. ltb 0 n && ltb (total + n) (2 ^ 63)) (behind_reads (5 ∷ []) small_reads))
+room_from : (total n : ℕ) → is_room total n ≡ true → IsRoom total n
+room_from total n h = (ltb-true 0 n (first_so _ _ h), ltb-true (total + n) (2 ^ 63) (second_so _ _ h))
+
+room_to : (total n : ℕ) → IsRoom total n → is_room total n ≡ true
+room_to total n h = both_so _ _ (lt-ltb 0 n h.0) (lt-ltb (total + n) (2 ^ 63) h.1)
+
+abbrev amount_bytes : ℕ → List ℕ
+amount_bytes n = 5 ∷ to_be_bytes w64 n
+
+-- the account may have so much
+abbrev pub MayHave : Cell → ℕ → ℕ → Type 0
+MayHave c total n = IsTrue (is_implicit (address_of c)) × IsRoom total n
+
+amount_read : (d : ℕ) (c : Cell) (total : ℕ) → ReadsPart (made amount_of (checked (fits c total) (plain (value (suc d))))) amount_bytes (MayHave c total)
+amount_read d c total =
+    reads_made amount_of variant.Mutez amount_bytes (MayHave c total)
+    (λ v good.
+    let room : IsRoom total (amount_of v) = room_from total (amount_of v) (second_so _ _ good.1) in
+    (ap spell (value_is v room.0) ∙ spell_mutez (amount_of v), (first_so _ _ good.1, room)))
+    (λ n good.
+    let room : IsRoom total n = good.1 in
+    let small : n < 2 ^ 63 = omega arith in
+    ((mutez_good d n small, both_so _ _ good.0 (ap (is_room total) (amount_of-Mutez n) ∙ room_to total n room)), amount_of-Mutez n))
+    (reads_checked (fits c total) (reads_plain (value_reads (suc d))))
+
+pub amount_reads : (c : Cell) (total : ℕ) → ReadsPart (amount c total) amount_bytes (MayHave c total)
+amount_reads c total = amount_read 127 c total
+
+-- ---- a cell and its value
+
+name_reads : (last : Option Cell) → ReadsPart (name last) spell_cell (λ c. IsCell c × IsTrue (is_above last c))
+name_reads last = reads_checked (is_above last) reads_cell
+
+balance_is : (c : Cell) → c ≡ Balance (address_of c)
+balance_is (Balance a) = refl
+
+-- an implicit account above the last one
+abbrev pub IsNext : Option Cell → List ℕ → Type 0
+IsNext last a = IsImplicit a × IsTrue (is_above last (Balance a))
 
 -- a holding that may stand behind what stands before
 abbrev pub Follows : Before → Holding → Type 0
 Follows before h = IsNext before.0 h.address × IsRoom before.1 h.amount
 
-pub holding_reads : (before : Before) → Reads (holding before) (λ h. cell (pair h)) (Follows before)
+implicit_from : (a : List ℕ) → is_address a ≡ true → is_implicit a ≡ true → IsImplicit a
+implicit_from a is implicit = record { long = eqb-true (length a) 22 (first_so _ _ is); implicit = eqb-true (slice_index a 0) 0 implicit }
+
+address_from : (a : List ℕ) → IsImplicit a → is_address a ≡ true
+address_from a good =
+    let low : slice_index a 0 ≡ 0 = good.implicit in
+    both_so _ _ (eq-eqb (length a) 22 good.long) (le-leb (slice_index a 0) 1 (omega arith))
+
+-- the holding of a cell that was read
+abbrev IsOf : Cell → ℕ → Holding → Type 0
+IsOf c total h = (c ≡ Balance h.address) × MayHave c total h.amount
+
+of_cell : (c : Cell) (total : ℕ) → ReadsPart (made (λ n. let h : Holding = record { address = address_of c; amount = n } in h) (amount c total)) (λ h. amount_bytes h.amount) (IsOf c total)
+of_cell c total =
+    reads_made (λ n. let h : Holding = record { address = address_of c; amount = n } in h) (λ (h : Holding). h.amount) (λ (h : Holding). amount_bytes h.amount) (IsOf c total)
+    (λ n good. (refl, (balance_is c, good)))
+    (λ h good. (good.1, ap (λ (c : Cell). let x : Holding = record { address = address_of c; amount = h.amount } in x) good.0))
+    (amount_reads c total)
+
+pub holding_reads : (before : Before) → ReadsPart (holding before) (λ h. cell (pair h)) (Follows before)
 holding_reads before =
-    made_reads (λ (p : List ℕ × ℕ). let h : Holding = record { address = p.0; amount = p.1 } in h) pair (λ h. cell (pair h)) (Follows before)
-    (λ p good. (refl, good)) (λ h good. (good, refl)) (both_reads (name_reads before.0) (amount_reads before.1))
+    reads_same (λ h. cell (pair h)) (Follows before)
+    (λ h good. (refl, ((implicit_from h.address good.0.0 good.1.1.0, good.0.1), good.1.1.1)))
+    (λ h good. ((address_from h.address good.0.0, good.0.1), (refl, (eq-eqb (slice_index h.address 0) 0 good.0.0.implicit, good.1))))
+    (reads_with (name_reads before.0) (λ c. of_cell c before.1) (λ (h : Holding). Balance h.address) (λ c h good. sym good.0))
 
 abbrev pub Follow : ℕ → List Holding → Type 0
 Follow = GoodItems Follows next (None, 0)
 
-pub cells_reads : (n : ℕ) → Reads (cells n) (flat_map (λ h. cell (pair h))) (Follow n)
-cells_reads n = chained_reads next holding_reads (None, 0) n
+cells_reads : (n : ℕ) → ReadsPart (cells n) (flat_map (λ h. cell (pair h))) (Follow n)
+cells_reads n = reads_chained next holding_reads (None, 0) n
 
-pub book_reads : Reads book (λ hs. (0 ∷ 0 ∷ 0 ∷ 0 ∷ []) ++ (to_be_bytes w32 (length hs) ++ flat_map (λ h. cell (pair h)) hs)) (λ hs. (length hs < 2 ^ 32) × Follow (length hs) hs)
-book_reads = behind_reads (0 ∷ 0 ∷ 0 ∷ 0 ∷ []) (with_reads (number_reads w32 (2 ^ 32) wide32) cells_reads length (λ n hs good. good.0))
+-- ---- the contracts and the cells
+
+contracts_reads : ReadsPart contracts (to_be_bytes w32) (λ n. n ≡ 0)
+contracts_reads =
+    reads_same (to_be_bytes w32) (λ n. n ≡ 0) (λ n good. (refl, eqb-true n 0 good.1))
+    (λ n none. ((omega arith, le-leb n 1024 (omega arith)), eq-eqb n 0 none))
+    (reads_built (λ n. eqb n 0) (reads_checked (λ n. nat_le n 1024) (reads_plain (number_reads w32 (2 ^ 32) wide32))))
+
+abbrev pub book_bytes : List Holding → List ℕ
+book_bytes hs = to_be_bytes w32 (length hs) ++ flat_map (λ h. cell (pair h)) hs
+
+abbrev pub IsBook : List Holding → Type 0
+IsBook hs = (length hs < 2 ^ 32) × Follow (length hs) hs
+
+counted_reads : ReadsPart (with (plain (number w32)) cells) book_bytes IsBook
+counted_reads = reads_with (reads_plain (number_reads w32 (2 ^ 32) wide32)) cells_reads length (λ n hs good. good.0)
+
+pub book_reads : ReadsPart book (λ hs. to_be_bytes w32 0 ++ book_bytes hs) IsBook
+book_reads =
+    reads_made (λ (p : ℕ × List Holding). p.1) (λ hs. (0, hs)) (λ hs. to_be_bytes w32 0 ++ book_bytes hs) IsBook
+    (λ p good. (ap (λ n. to_be_bytes w32 n ++ book_bytes p.1) good.0, good.1)) (λ hs good. ((refl, good), refl))
+    (reads_both contracts_reads counted_reads)

@@ -8,24 +8,26 @@ use Rattle.std.specs.FinMap.{entries, len, len-entries, is_sorted}
 use Rattle.std.specs.FinMap.Entries.{below_all}
 use Rattle.std.proofs.lemmas.List.{length-map}
 use Rattle.std.proofs.lemmas.List.Sums.{sum_by-cons}
-use Rattle.byte_fields.specs.Readers.{Reader, both, number}
-use Rattle.byte_fields.specs.Laws.{IsBytes, Reads, ReadsWhole, AllAlong}
-use Rattle.byte_fields.specs.declared.fault.ReadStop.{ReadStop}
-use Rattle.byte_fields.specs.Told.{Gives}
-use Rattle.byte_fields.specs.Order.{is_above}
+use Rattle.byte_fields.specs.Readers.{number}
+use Rattle.byte_fields.specs.Laws.{IsBytes, AllAlong}
 use Rattle.byte_fields.proofs.Digits.{wide32, wide64}
 use Rattle.byte_fields.proofs.Numbers.{number_reads}
-use Rattle.byte_fields.proofs.Joined.{made_reads, both_reads}
-use Rattle.byte_fields.proofs.Whole.{whole_reads}
+use Rattle.cell_names.specs.declared.cell.Cell as names
+use Rattle.cell_names.specs.declared.cell.Cell.TheVariants.{Balance}
+use Rattle.cell_names.specs.declared.fault.FormatStop.{FormatStop}
+use Rattle.cell_names.specs.Partial.{PartReader, plain, both, behind}
+use Rattle.cell_names.specs.Answers.{Answers}
+use Rattle.cell_names.specs.Reading.{is_above}
+use Rattle.cell_names.proofs.Forget.{forget, ReadsPart, ReadsAll, reads_plain, reads_both, reads_behind, reads_made, reads_whole}
 use Rattle.ledger_state.specs.declared.holding.Holding.{Holding}
 use Rattle.ledger_state.specs.Ledger.{Ledger, Balances, AreBalances, Ascends, pair}
 use Rattle.ledger_state.specs.Holdings.{AreHoldings, balances_of, ledger_from}
 use Rattle.ledger_state.specs.Spelling.{magic, cell, spelling, IsLedger}
-use Rattle.ledger_state.specs.Place.{Before, next, behind, book, ledger}
+use Rattle.ledger_state.specs.Reading.{Before, next, book, ledger}
 use Rattle.ledger_state.proofs.Ascending.{second_so, both_so, lt_is, below_all_less}
 use Rattle.ledger_state.proofs.Changing.{R, o, Cell, IsFunded, entries_funded, balances_from_entries}
 use Rattle.ledger_state.proofs.HoldingLemmas.{entries-balances_of, unpair, balances_are}
-use Rattle.ledger_state.proofs.FieldLaws.{Follows, Follow, behind_reads, book_reads}
+use Rattle.ledger_state.proofs.FieldLaws.{Follows, Follow, book_bytes, IsBook, book_reads}
 
 -- ---- one after the other, and all of them
 
@@ -37,9 +39,9 @@ total_of-cons : (e : Cell) (es : List Cell) → total_of (e ∷ es) ≡ e.1 + to
 total_of-cons e es = sum_by-cons (λ n. n) e.1 (map (λ (e : Cell). e.1) es)
 
 -- each key is above the last one, where there is one
-abbrev are_above : Option (List ℕ) → List Cell → Bool
+abbrev are_above : Option names.Cell → List Cell → Bool
 are_above None es = true
-are_above (Some last) es = below_all R last es
+are_above (Some (Balance last)) es = below_all R last es
 
 -- what holdings that follow each other are together
 record Together (before : Before) (es : List Cell) : Type 0 where
@@ -48,17 +50,17 @@ record Together (before : Before) (es : List Cell) : Type 0 where
   funded : AllByRecursion IsFunded es
   within : before.1 < 2 ^ 63 → before.1 + total_of es < 2 ^ 63
 
-are_above-cons : (last : Option (List ℕ)) (e : Cell) (es : List Cell) → is_above last e.0 ≡ true → below_all R e.0 es ≡ true → are_above last (e ∷ es) ≡ true
+are_above-cons : (last : Option names.Cell) (e : Cell) (es : List Cell) → is_above last (Balance e.0) ≡ true → below_all R e.0 es ≡ true → are_above last (e ∷ es) ≡ true
 are_above-cons None e es a h = refl
-are_above-cons (Some last) e es a h = both_so _ _ a (below_all_less o last e.0 es (lt_is _ a) h)
+are_above-cons (Some (Balance last)) e es a h = both_so _ _ a (below_all_less o last e.0 es (lt_is _ a) h)
 
-above_first : (last : Option (List ℕ)) (e : Cell) (es : List Cell) → are_above last (e ∷ es) ≡ true → is_above last e.0 ≡ true
+above_first : (last : Option names.Cell) (e : Cell) (es : List Cell) → are_above last (e ∷ es) ≡ true → is_above last (Balance e.0) ≡ true
 above_first None e es h = refl
-above_first (Some last) e es h = first_so _ _ h
+above_first (Some (Balance last)) e es h = first_so _ _ h
 
-none_above : (last : Option (List ℕ)) → are_above last [] ≡ true
+none_above : (last : Option names.Cell) → are_above last [] ≡ true
 none_above None = refl
-none_above (Some last) = refl
+none_above (Some (Balance last)) = refl
 
 together : (before : Before) (hs : List Holding) → AllAlong Follows next before hs → Together before (map pair hs)
 together before [] h = record { ascend = refl; above = none_above before.0; funded = tt; within = λ lt. omega arith }
@@ -97,8 +99,8 @@ follow_from_balances m hs is h =
 abbrev Parts : Type 0
 Parts = ℕ × (ℕ × List Holding)
 
-abbrev parts : Reader Parts
-parts = behind magic (both (number w32) (both (number w64) book))
+abbrev parts : PartReader Parts
+parts = behind magic (both (plain (number w32)) (both (plain (number w64)) book))
 
 abbrev from_parts : Parts → Ledger
 from_parts p = ledger_from p.0 p.1.0 p.1.1
@@ -107,16 +109,16 @@ abbrev to_parts : Ledger → Parts
 to_parts s = (s.level, (s.now, map unpair (entries s.balances)))
 
 abbrev AreParts : Parts → Type 0
-AreParts p = (p.0 < 2 ^ 32) × ((p.1.0 < 2 ^ 64) × ((length p.1.1 < 2 ^ 32) × Follow (length p.1.1) p.1.1))
+AreParts p = (p.0 < 2 ^ 32) × ((p.1.0 < 2 ^ 64) × IsBook p.1.1)
+
+abbrev parts_bytes : Parts → List ℕ
+parts_bytes p = magic ++ (to_be_bytes w32 p.0 ++ (to_be_bytes w64 p.1.0 ++ (to_be_bytes w32 0 ++ book_bytes p.1.1)))
+
+parts_reads : ReadsPart parts parts_bytes AreParts
+parts_reads = reads_behind magic (reads_both (reads_plain (number_reads w32 (2 ^ 32) wide32)) (reads_both (reads_plain (number_reads w64 (2 ^ 64) wide64)) book_reads))
 
 abbrev holding_bytes : List Holding → List ℕ
 holding_bytes hs = flat_map (λ h. cell (pair h)) hs
-
-abbrev parts_bytes : Parts → List ℕ
-parts_bytes p = magic ++ (to_be_bytes w32 p.0 ++ (to_be_bytes w64 p.1.0 ++ ((0 ∷ 0 ∷ 0 ∷ 0 ∷ []) ++ (to_be_bytes w32 (length p.1.1) ++ holding_bytes p.1.1))))
-
-parts_reads : Reads parts parts_bytes AreParts
-parts_reads = behind_reads magic (both_reads (number_reads w32 (2 ^ 32) wide32) (both_reads (number_reads w64 (2 ^ 64) wide64) book_reads))
 
 holding_bytes-pairs : (hs : List Holding) → holding_bytes hs ≡ flat_map cell (map pair hs)
 holding_bytes-pairs [] = refl
@@ -148,11 +150,11 @@ to_good s good =
       ap (λ (m : Balances). let l : Ledger = record { level = s.level; now = s.now; balances = m } in l) (balances_are hs s.balances is).1,
     )
 
-pub ledger_reads : ReadsWhole ledger spelling IsLedger
+pub ledger_reads : ReadsAll ledger spelling IsLedger
 unfolding ledger
-ledger_reads = whole_reads (made_reads from_parts to_parts spelling IsLedger from_good to_good parts_reads)
+ledger_reads = reads_whole (reads_made from_parts to_parts spelling IsLedger from_good to_good parts_reads)
 
 -- what a book has read are holdings of a state
-pub book_lawful : {X : Type 0} (view : X → List Holding × List ℕ) (bytes : List ℕ) (r : Result X ReadStop) → IsBytes bytes → Gives view r (book bytes) → IfOk r (λ x. AreHoldings (view x).0)
-book_lawful view bytes (Ok x) fits is = AreHoldings-from_follow (length (view x).0) (view x).0 (book_reads.takes bytes (view x).0 (view x).1 fits is).1.1
+pub book_lawful : {X : Type 0} (view : X → List Holding × List ℕ) (bytes : List ℕ) (r : Result X FormatStop) → IsBytes bytes → Answers view r (book bytes) → IfOk r (λ x. AreHoldings (view x).0)
+book_lawful view bytes (Ok x) fits is = AreHoldings-from_follow (length (view x).0) (view x).0 (book_reads.law.takes bytes (view x).0 (view x).1 fits (ap forget is)).1.1
 book_lawful view bytes (Err e) fits is = tt

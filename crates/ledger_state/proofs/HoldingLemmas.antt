@@ -14,8 +14,9 @@ use Rattle.std.specs.List.{list_all}
 use Rattle.std.specs.List.Sorted.{IsPartitionedBy, IsPartitionPoint}
 use Rattle.std.specs.FinMap.{entries, entries_sorted, same_entries_map, find, is_sorted, entries-from_sorted, get-from_sorted}
 use Rattle.std.specs.FinMap.Entries.{below_all}
+use Rattle.cell_names.specs.Accounts.{IsImplicit}
 use Rattle.ledger_state.specs.declared.holding.Holding.{Holding}
-use Rattle.ledger_state.specs.Ledger.{Ledger, Balances, AreBalances, IsImplicit, Ascends, pair, balance, changed, supply}
+use Rattle.ledger_state.specs.Ledger.{Ledger, Balances, AreBalances, Ascends, pair, balance, changed, supply}
 use Rattle.ledger_state.specs.Holdings.{AreHoldings, balances_of, ledger_from, first_amount, is_below, is_not_below, kept, without}
 use Rattle.ledger_state.proofs.Ascending.{second_so, so_T, T_so, lt_is, below_all_less, are_below, find_past, is_sorted-drop}
 use Rattle.ledger_state.proofs.Changing.{R, o, Cell, set_all, set_all_step, kept_cell, without_cell, none_below, entries-changed, AreBalances-changed}

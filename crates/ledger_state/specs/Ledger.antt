@@ -1,9 +1,10 @@
 -- Ledgers: a level, a time, and what each account has.
-use Rattle.std.specs.Prelude.{◌≡◌, ℕ, ◌<◌, ◌^◌, ◌==◌, if◌then◌else◌, List, [], ◌∷◌, length, slice_index, All, sum, map, IsTrue, unwrap_or, refl}
+use Rattle.std.specs.Prelude.{ℕ, ◌<◌, ◌^◌, ◌==◌, if◌then◌else◌, List, [], ◌∷◌, All, sum, map, IsTrue, unwrap_or, refl}
 use Rattle.std.specs.Ordering.{nat_cmp}
 use Rattle.std.specs.Cmp.Lexicographic.{slice_cmp}
 use Rattle.std.specs.FinMap.{FinMap, get, insert, remove, keys, values, is_sorted, code}
 use Rattle.std.specs.Coded.{Coded, code_by, coded_ℕ, coded×, coded_list}
+use Rattle.cell_names.specs.Accounts.{IsImplicit}
 use Rattle.ledger_state.specs.declared.holding.Holding.{Holding}
 
 -- what each account has, by its address
@@ -32,11 +33,6 @@ pub record Ledger : Type 0 where
   pub level : ℕ
   pub now : ℕ
   pub balances : Balances
-
--- the address of an implicit account: 22 bytes, the first 0
-pub record IsImplicit (address : List ℕ) : Type 0 where
-  pub long : length address ≡ 22
-  pub implicit : slice_index address 0 ≡ 0
 
 -- what the balances of every ledger keep
 pub record AreBalances (m : Balances) : Type 0 where

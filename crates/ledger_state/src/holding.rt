@@ -1,15 +1,10 @@
-//! The plain data of a ledger.
+//! What one account has.
 
-/// The level and the time of a ledger.
-#[derive(Clone, Copy, Debug, PartialEq, Eq)]
-pub struct Head {
-    pub level: u32,
-    pub now: u64,
-}
+use value_core::Address;
 
-/// What one account has.
+/// The balance of an account.
 #[derive(Clone, Copy, Debug, PartialEq, Eq)]
 pub struct Holding {
-    pub address: [u8; 22],
+    pub address: Address,
     pub amount: u64,
 }

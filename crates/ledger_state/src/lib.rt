@@ -5,10 +5,13 @@
 //! amounts together stay below 2^63. Nothing changes a state in place: `with_balances` makes the
 //! next one in one pass over the holdings and the changes.
 //!
-//! - `holding`: `Head` and `Holding`, plain data. `state`: `State` and its calls. Begin there.
+//! - `state`: `State` and its calls. Begin there. `holding`: what one account has.
 //! - `merge`: where an address stands, and holdings with changes put in.
+//! - `writer`, `reader`: the file of a ledger (docs/FORMATS.md, "State file").
 //!
-//! The first form of a file has no contracts, and balances of implicit accounts alone.
+//! Contracts aren't built yet, so a ledger has balances of implicit accounts alone. A file that has
+//! a contract, or a cell of another kind, is refused as `NotYet` at that place, where all before it
+//! keeps the rules.
 #![tactic(auto)]
 
 mod holding;
@@ -19,8 +22,9 @@ mod state;
 mod tests;
 mod writer;
 
-pub use byte_fields::{At, FieldFault};
-pub use holding::{Head, Holding};
-pub use reader::{address_at, name_at, read_state};
-pub use state::{NoMemory, State};
+pub use byte_fields::At;
+pub use cell_names::{FormatFault, Head, NoMemory};
+pub use holding::Holding;
+pub use reader::read_state;
+pub use state::State;
 pub use writer::write_state;

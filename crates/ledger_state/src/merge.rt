@@ -7,21 +7,22 @@ ghost use Rattle.ledger_state.specs.Ledger.{Ascends, changed, pair};
 ghost use Rattle.ledger_state.specs.Holdings.{balances_of, first_amount, is_below, is_not_below, kept, without};
 
 use crate::holding::Holding;
-use crate::state::NoMemory;
+use cell_names::NoMemory;
 use std::alloc::Global;
+use value_core::Address;
 
 /// How many holdings stand below the address.
-pub fn place_in(holdings: &[Holding], address: &[u8; 22]) -> usize
+pub fn place_in(holdings: &[Holding], address: &Address) -> usize
     requires { Ascends holdings.now }
     ensures within { result ≤ length holdings.now }
     ensures below { IsTrue (list_all (is_below address.now) (take result holdings.now)) }
     ensures others { IsTrue (list_all (is_not_below address.now) (drop result holdings.now)) }
 {
-    holdings.partition_point(|holding| holding.address.cmp(address).is_lt())
+    holdings.partition_point(|holding| holding.address.bytes().cmp(address.bytes()).is_lt())
 }
 
 /// What the first holding has, where that is the address's.
-pub fn amount_in(holdings: &[Holding], address: &[u8; 22]) -> u64
+pub fn amount_in(holdings: &[Holding], address: &Address) -> u64
     ensures { result ≡ first_amount address.now holdings.now }
 {
     match holdings.split_first() {
@@ -31,7 +32,7 @@ pub fn amount_in(holdings: &[Holding], address: &[u8; 22]) -> u64
 }
 
 /// The holdings without the first, where that is the address's.
-fn past<'a>(holdings: &'a [Holding], address: &[u8; 22]) -> &'a [Holding]
+fn past<'a>(holdings: &'a [Holding], address: &Address) -> &'a [Holding]
     ensures { result.now ≡ without address.now holdings.now }
 {
     match holdings.split_first() {
@@ -79,7 +80,8 @@ pub fn merged(
 ) -> Result<Vec<Holding>, NoMemory>
     requires holdings { Ascends holdings.now }
     requires changes { Ascends changes.now }
-    ensures { IfOk result (λ v. map pair v.items ≡ entries (changed (balances_of holdings.now) changes.now)) }
+    ensures { IfOk result (λ v. map pair v.items
+        ≡ entries (changed (balances_of holdings.now) changes.now)) }
 {
     let mut out = Vec::with_capacity(alloc, holdings.len().saturating_add(changes.len()))?;
     let mut rest = holdings;

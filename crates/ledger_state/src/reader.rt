@@ -1,140 +1,178 @@
 //! Reading a ledger from its file.
 
 ghost use Rattle.std.specs.Prelude.{◌≡◌, ◌+◌, ◌<◌, ◌^◌, [], IfOk};
-ghost use Rattle.byte_fields.specs.Order.{is_above};
-ghost use Rattle.byte_fields.specs.Told.{Gives, Tells};
+ghost use Rattle.std.specs.Option.{option_map};
+ghost use Rattle.cell_names.specs.declared.cell.Cell.TheVariants.{Balance};
+ghost use Rattle.cell_names.specs.Answers.{Answers, IsTold};
+ghost use Rattle.cell_names.specs.Reading.{is_above};
 ghost use Rattle.ledger_state.specs.Holdings.{AreHoldings, ledger_from};
 ghost use Rattle.ledger_state.specs.Ledger.{Ledger};
-ghost use Rattle.ledger_state.specs.Place.{address, amount, book, cells, holding, ledger, ledger_of, name, small};
+ghost use Rattle.ledger_state.specs.Reading.{amount, amount_of, book, cells, contracts, holding, ledger, ledger_of, name};
 ghost use Rattle.ledger_state.specs.Spelling.{IsLedger, spelling};
 
-use crate::holding::{Head, Holding};
+use crate::holding::Holding;
 use crate::state::State;
-use byte_fields::{FieldFault, ReadStop, array_at, fault_at, mark_of, u32_at, u64_at};
+use byte_fields::{mark_of, u32_at, u64_at};
+use cell_names::{Cell, FormatFault, FormatStop, Head, cell_at, fault_at, order};
 use std::alloc::Global;
+use value_codec::value_at;
+use value_core::{Address, Val};
 
-/// The bytes of a cell.
+/// The bytes of a cell and its value.
 const CELL: usize = 32;
 
-/// The address of an implicit account.
-pub fn address_at(bytes: &[u8]) -> Result<([u8; 22], &[u8]), ReadStop>
-    ensures { Gives (λ x. (x.0, x.1.now)) result (address bytes.now) }
-{
-    let (address, rest) = array_at::<22>(bytes)?;
-    if address[0] != 0 {
-        return Err(ReadStop::Left(bytes.len()));
-    }
-    Ok((address, rest))
-}
-
-fn stands_above(last: Option<[u8; 22]>, address: [u8; 22]) -> bool
-    ensures { result ≡ is_above last address }
+fn stands_above(last: Option<Address>, cell: &Cell) -> bool
+    ensures { result ≡ is_above (option_map Balance last) cell.now }
 {
     match last {
         None => true,
-        Some(last) => last.cmp(&address).is_lt(),
+        Some(last) => order(&Cell::Balance(last), cell).is_lt(),
     }
 }
 
 /// The account whose balance is named, which has to stand above the last one.
-pub fn name_at(last: Option<[u8; 22]>, bytes: &[u8]) -> Result<([u8; 22], &[u8]), ReadStop>
-    ensures { Gives (λ x. (x.0, x.1.now)) result (name last bytes.now) }
+fn name_at(last: Option<Address>, bytes: &[u8]) -> Result<(Address, &[u8]), FormatStop>
+    ensures { Answers (λ x. (Balance x.0, x.1.now)) result
+        (name (option_map Balance last) bytes.now) }
 {
-    let rest = mark_of(&[0], bytes)?;
-    let (address, rest) = address_at(rest)?;
-    if !stands_above(last, address) {
-        return Err(ReadStop::Left(bytes.len()));
+    match cell_at(bytes) {
+        Ok((cell, rest)) => {
+            if !stands_above(last, &cell) {
+                return Err(FormatStop::Left(bytes.len()));
+            }
+            let Cell::Balance(address) = cell;
+            Ok((address, rest))
+        }
+        Err(stop) => Err(stop),
     }
-    Ok((address, rest))
 }
 
-fn small_at(bytes: &[u8]) -> Result<(u64, &[u8]), ReadStop>
-    ensures { Gives (λ x. (x.0, x.1.now)) result (small bytes.now) }
+/// How much money a value is, and 0 where it is none.
+fn amount_of(value: &Val) -> u64
+    ensures { result ≡ amount_of value.now }
 {
-    let (number, rest) = u64_at(bytes)?;
-    if number >= 1 << 63 {
-        return Err(ReadStop::Left(bytes.len()));
+    match value {
+        Val::Mutez(amount) => *amount,
+        _ => 0,
     }
-    Ok((number, rest))
 }
 
-fn amount_at(total: u64, bytes: &[u8]) -> Result<(u64, &[u8]), ReadStop>
+/// What the account has, behind balances of so much.
+fn amount_at(
+    alloc: Global,
+    address: Address,
+    total: u64,
+    bytes: &[u8],
+) -> Result<(u64, &[u8]), FormatStop>
     requires { total < 2 ^ 63 }
     ensures within { IfOk result (λ x. total + x.0 < 2 ^ 63) }
-    ensures read { Gives (λ x. (x.0, x.1.now)) result (amount total bytes.now) }
+    ensures read { Answers (λ x. (x.0, x.1.now)) result (amount (Balance address) total bytes.now) }
 {
-    let rest = mark_of(&[5], bytes)?;
-    let (number, rest) = small_at(rest)?;
-    if number == 0 || number >= (1 << 63) - total {
-        return Err(ReadStop::Left(bytes.len()));
+    let (value, rest) = value_at(alloc, 128, bytes)?;
+    let amount = amount_of(&value);
+    if address.is_contract() || amount == 0 || amount >= (1 << 63) - total {
+        return Err(FormatStop::Left(bytes.len()));
     }
-    Ok((number, rest))
+    Ok((amount, rest))
 }
 
 fn holding_at(
-    last: Option<[u8; 22]>,
+    alloc: Global,
+    last: Option<Address>,
     total: u64,
     bytes: &[u8],
-) -> Result<(Holding, &[u8]), ReadStop>
+) -> Result<(Holding, &[u8]), FormatStop>
     requires { total < 2 ^ 63 }
     ensures within { IfOk result (λ x. total + x.0.amount < 2 ^ 63) }
-    ensures read { Gives (λ x. (x.0, x.1.now)) result (holding (last, total) bytes.now) }
+    ensures read { Answers (λ x. (x.0, x.1.now)) result
+        (holding (option_map Balance last, total) bytes.now) }
 {
-    let (address, rest) = name_at(last, bytes)?;
-    let (amount, rest) = amount_at(total, rest)?;
-    Ok((Holding { address, amount }, rest))
+    match name_at(last, bytes) {
+        Ok((address, rest)) => match amount_at(alloc, address, total, rest) {
+            Ok((amount, rest)) => Ok((Holding { address, amount }, rest)),
+            Err(stop) => Err(stop),
+        },
+        Err(stop) => Err(stop),
+    }
 }
 
-fn cells_at(alloc: Global, count: u32, bytes: &[u8]) -> Result<(Vec<Holding>, &[u8]), ReadStop>
-    ensures { Gives (λ x. (x.0.items, x.1.now)) result (cells count bytes.now) }
+fn cells_at(alloc: Global, count: u32, bytes: &[u8]) -> Result<(Vec<Holding>, &[u8]), FormatStop>
+    ensures { Answers (λ x. (x.0.items, x.1.now)) result (cells count bytes.now) }
 {
     let mut holdings = Vec::with_capacity(alloc, (count as usize).min(bytes.len() / CELL))?;
     let mut last = None;
     let mut total = 0u64;
     let mut rest = bytes;
     for _ in 0..count {
-        let (holding, after) = holding_at(last, total, rest)?;
-        last = Some(holding.address);
-        total += holding.amount;
-        holdings.push(holding)?;
-        rest = after;
+        match holding_at(alloc, last, total, rest) {
+            Ok((holding, after)) => {
+                last = Some(holding.address);
+                total += holding.amount;
+                holdings.push(holding)?;
+                rest = after;
+            }
+            Err(stop) => return Err(stop),
+        }
     }
     Ok((holdings, rest))
 }
 
-fn book_at(alloc: Global, bytes: &[u8]) -> Result<(Vec<Holding>, &[u8]), ReadStop>
-    ensures { Gives (λ x. (x.0.items, x.1.now)) result (book bytes.now) }
+/// The bytes after the number of contracts, of which none are built.
+fn contracts_at(bytes: &[u8]) -> Result<(u32, &[u8]), FormatStop>
+    ensures { Answers (λ x. (x.0, x.1.now)) result (contracts bytes.now) }
 {
-    let rest = mark_of(&[0, 0, 0, 0], bytes)?;
-    let (count, rest) = u32_at(rest)?;
-    cells_at(alloc, count, rest)
+    let (count, rest) = u32_at(bytes)?;
+    if count > 1024 {
+        return Err(FormatStop::Left(bytes.len()));
+    }
+    if count > 0 {
+        return Err(FormatStop::NotYet(bytes.len()));
+    }
+    Ok((count, rest))
 }
 
-fn holdings_at(alloc: Global, bytes: &[u8]) -> Result<(Vec<Holding>, &[u8]), ReadStop>
+fn book_at(alloc: Global, bytes: &[u8]) -> Result<(Vec<Holding>, &[u8]), FormatStop>
+    ensures { Answers (λ x. (x.0.items, x.1.now)) result (book bytes.now) }
+{
+    match contracts_at(bytes) {
+        Ok((_, rest)) => {
+            let (count, rest) = u32_at(rest)?;
+            cells_at(alloc, count, rest)
+        }
+        Err(stop) => Err(stop),
+    }
+}
+
+fn holdings_at(alloc: Global, bytes: &[u8]) -> Result<(Vec<Holding>, &[u8]), FormatStop>
     ensures lawful { IfOk result (λ x. AreHoldings x.0.items) }
-    ensures read { Gives (λ x. (x.0.items, x.1.now)) result (book bytes.now) }
+    ensures read { Answers (λ x. (x.0.items, x.1.now)) result (book bytes.now) }
 {
     book_at(alloc, bytes)
 }
 
 /// The head and the holdings that all of the bytes spell.
-#[tactic(auto, unfolding(crate::specs::Place::ledger))]
-fn parts_at(alloc: Global, bytes: &[u8]) -> Result<(Head, Vec<Holding>), ReadStop>
+#[tactic(auto, unfolding(crate::specs::Reading::ledger))]
+fn parts_at(alloc: Global, bytes: &[u8]) -> Result<(Head, Vec<Holding>), FormatStop>
     ensures lawful { IfOk result (λ x. AreHoldings x.1.items) }
-    ensures read { Gives (λ x. (ledger_from x.0.level x.0.now x.1.items, [])) result (ledger bytes.now) }
+    ensures read { Answers (λ x. (ledger_from x.0.level x.0.now x.1.items, [])) result
+        (ledger bytes.now) }
 {
     let rest = mark_of(b"FJS1", bytes)?;
     let (level, rest) = u32_at(rest)?;
     let (now, rest) = u64_at(rest)?;
-    let (holdings, rest) = holdings_at(alloc, rest)?;
-    if !rest.is_empty() {
-        return Err(ReadStop::Left(rest.len()));
+    match holdings_at(alloc, rest) {
+        Ok((holdings, rest)) => {
+            if !rest.is_empty() {
+                return Err(FormatStop::Left(rest.len()));
+            }
+            Ok((Head { level, now }, holdings))
+        }
+        Err(stop) => Err(stop),
     }
-    Ok((Head { level, now }, holdings))
 }
 
-fn state_of(alloc: Global, bytes: &[u8]) -> Result<State, FieldFault>
-    ensures { Tells result (ledger_of bytes.now) }
+fn state_of(alloc: Global, bytes: &[u8]) -> Result<State, FormatFault>
+    ensures { IsTold result (ledger_of bytes.now) }
 {
     match parts_at(alloc, bytes) {
         Ok((head, holdings)) => Ok(State::of(head, holdings)),
@@ -143,13 +181,13 @@ fn state_of(alloc: Global, bytes: &[u8]) -> Result<State, FieldFault>
 }
 
 /// The state that all of the bytes spell.
-pub fn read_state(alloc: Global, bytes: &[u8]) -> Result<State, FieldFault>
+pub fn read_state(alloc: Global, bytes: &[u8]) -> Result<State, FormatFault>
     // What is read is spelt so.
     ensures found { IfOk result (λ s. IsLedger s × (bytes.now ≡ spelling s)) }
     // What is spelt so is read, unless memory runs out.
-    ensures only { (s : Ledger) → IsLedger s → bytes.now ≡ spelling s → Tells result (Ok s) }
-    // Which fault it is.
-    ensures place { Tells result (ledger_of bytes.now) }
+    ensures only { (s : Ledger) → IsLedger s → bytes.now ≡ spelling s → IsTold result (Ok s) }
+    // Which fault it is, or what isn't built.
+    ensures place { IsTold result (ledger_of bytes.now) }
 {
     state_of(alloc, bytes)
 }

@@ -2,16 +2,16 @@
 
 ghost use Rattle.std.specs.Prelude.{◌≡◌, ◌<◌, ◌^◌, ◌↔◌, length, All, IfOk, IsTrue, map};
 ghost use Rattle.std.specs.FinMap.{entries, len};
-ghost use Rattle.ledger_state.specs.Ledger.{AreBalances, Ascends, IsImplicit, balance, changed, pair, supply};
-ghost use Rattle.ledger_state.specs.Holdings.{AreHoldings, balances_of};
+ghost use Rattle.cell_names.specs.Accounts.{IsImplicit};
+ghost use Rattle.ledger_state.specs.Ledger.{AreBalances, Ascends, balance, changed, pair, supply};
+ghost use Rattle.ledger_state.specs.Holdings.{AreHoldings, ledger_from};
 
-use crate::holding::{Head, Holding};
+use crate::holding::Holding;
 use crate::merge::{amount_in, merged, place_in, same_holdings};
-use std::alloc::{AllocError, Global};
+use cell_names::{Head, NoMemory};
+use std::alloc::Global;
 use std::marker::Model;
-
-/// Want of memory.
-pub type NoMemory = AllocError;
+use value_core::Address;
 
 /// A ledger: its holdings ascend by address, and together stay below 2^63.
 #[derive(Drop)]
@@ -27,9 +27,9 @@ impl Model for State {
 
     ghost coded = { ledger_code };
 
-    ghost use Rattle.ledger_state.specs.Holdings.{AreHoldings, balances_of};
+    ghost use Rattle.ledger_state.specs.Holdings.{AreHoldings, ledger_from};
 
-    ghost view = { λ s. record { level = s.head.level; now = s.head.now; balances = balances_of s.holdings.items } };
+    ghost view = { λ s. ledger_from s.head.level s.head.now s.holdings.items };
 
     ghost invariant = { λ s. AreHoldings s.holdings.items };
 }
@@ -38,7 +38,7 @@ impl State {
     /// The state of these holdings.
     pub(crate) fn of(head: Head, holdings: Vec<Holding>) -> State
         requires { AreHoldings holdings.items }
-        ensures { result ≡ record { level = head.level; now = head.now; balances = balances_of holdings.items } }
+        ensures { result ≡ ledger_from head.level head.now holdings.items }
     {
         State { head, holdings }
     }
@@ -78,7 +78,7 @@ impl State {
     }
 
     /// What the account of this address has.
-    pub fn balance(&self, address: &[u8; 22]) -> u64
+    pub fn balance(&self, address: &Address) -> u64
         ensures { result ≡ balance self.now.balances address.now }
     {
         let holdings = self.holdings.as_slice();
@@ -96,7 +96,11 @@ impl State {
         requires ascend { Ascends changes.now }
         requires accounts { All (λ c. IsImplicit c.address) changes.now }
         requires within { supply (changed self.now.balances changes.now) < 2 ^ 63 }
-        ensures { IfOk result (λ s. s ≡ record { level = head.level; now = head.now; balances = changed self.now.balances changes.now }) }
+        ensures { IfOk result (λ s. s ≡ record {
+          level = head.level;
+          now = head.now;
+          balances = changed self.now.balances changes.now;
+        }) }
     {
         let holdings = merged(alloc, &self.holdings, changes)?;
         Ok(State { head, holdings })

@@ -7,7 +7,8 @@ ghost use Rattle.ledger_state.specs.Ledger.{pair};
 ghost use Rattle.ledger_state.specs.Spelling.{cell, spelling};
 
 use crate::holding::Holding;
-use crate::state::{NoMemory, State};
+use crate::state::State;
+use cell_names::NoMemory;
 use std::alloc::Global;
 
 /// The bytes of a cell.
@@ -17,7 +18,7 @@ fn put_cell(out: &mut Vec<u8>, holding: &Holding) -> Result<(), NoMemory>
     ensures { OnOk result (out.new.items ≡ out.old.items ++ cell (pair holding.now)) }
 {
     out.push(0)?;
-    out.extend_from_slice(&holding.address)?;
+    out.extend_from_slice(holding.address.bytes().as_slice())?;
     out.push(5)?;
     out.extend_from_slice(&holding.amount.to_be_bytes())?;
     Ok(())

@@ -1,24 +1,22 @@
 -- The three ends of a transfer: nothing is moved, the source has too little, the amount is paid.
-use Rattle.std.proofs.Common.{◌≡◌, ◌≢◌, ◌<◌, ◌≤◌, ap, ◌∙◌}
+use Rattle.std.proofs.Common.{◌≡◌, ◌≢◌, ◌<◌, ◌≤◌, [], ap, ◌∙◌}
 use Rattle.std.specs.Prelude.{nat_lt, if◌then◌else◌}
-use Rattle.std.specs.FinMap.{empty}
 use Rattle.std.proofs.lemmas.Bool.{eq-eqb, ne_eqb, lt-ltb, le-ltb}
 use Rattle.ledger_state.specs.Ledger.{Balances, balance}
-use Rattle.block_codec.specs.declared.transfer.Mode.TheVariants.{Credit, Own}
 use Rattle.block_codec.specs.declared.transfer.Transfer.{Transfer}
-use Rattle.plain_transfers.specs.Serial.{Ran, applied, credited, debited, serial, too_low, touch}
+use Rattle.plain_transfers.specs.Serial.{Ran, applied, credited, debited, serial, too_low, debit_cells, paid_cells}
 
-abbrev unmoved : Balances → Ran
-unmoved m = record { balances = m; receipt = applied; footprint = empty }
+abbrev pub unmoved : Balances → Ran
+unmoved m = record { balances = m; receipt = applied; footprint = [] }
 
-abbrev failed : Balances → Transfer → Ran
-failed m t = record { balances = m; receipt = too_low; footprint = touch empty t.source Own }
+abbrev pub failed : Balances → Transfer → Ran
+failed m t = record { balances = m; receipt = too_low; footprint = debit_cells t }
 
-abbrev paid : Balances → Transfer → Ran
+abbrev pub paid : Balances → Transfer → Ran
 paid m t = record {
   balances = credited (debited m t.source t.amount) t.dest t.amount;
   receipt = applied;
-  footprint = touch (touch empty t.source Own) t.dest Credit;
+  footprint = paid_cells t;
 }
 
 pub serial-unmoved : (m : Balances) (t : Transfer) → t.amount ≡ 0 → serial m t ≡ unmoved m

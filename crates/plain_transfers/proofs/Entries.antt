@@ -50,20 +50,6 @@ module _ {K X : Type 0} {R : K → K → Ordering} (o : IsTotalOrder R) where
   below_tied k x [] p h = refl
   below_tied k x (e ∷ es) p h = ap (λ r. cond (is_eq r) (Some e.1) (find R k es)) (o.congr k x e.0 p ∙ is_less _ (left _ _ h)) ∙ below_tied k x es p (right _ _ h)
 
-  pub all-put : (Q : K × X → Type 0) (k : K) (v : X) → Q (k, v) → ((x : K) (w : X) → Q (x, w) → Q (x, v)) → (es : List (K × X)) → AllByRecursion Q es → AllByRecursion Q (put R k v es)
-  all-put Q k v new again [] all = (new, tt)
-  all-put Q k v new again (e ∷ es) all =
-      elim (R k e.0) as (λ r. AllByRecursion Q (by_order r ((k, v) ∷ e ∷ es) ((e.0, v) ∷ es) (e ∷ put R k v es))) [
-        | Less ↦ (new, all)
-        | Equal ↦ (again e.0 e.1 all.0, all.1)
-        | Greater ↦ (all.0, all-put Q k v new again es all.1)
-      ]
-
-  pub all-where_key : (Q : K × X → Type 0) (p : K → Bool) (es : List (K × X)) → AllByRecursion Q es → AllByRecursion Q (where_key R p es)
-  all-where_key Q p [] all = tt
-  all-where_key Q p (e ∷ es) all =
-      elim (p e.0) as (λ b. AllByRecursion Q (cond b (e ∷ where_key R p es) (where_key R p es))) [ true ↦ (all.0, all-where_key Q p es all.1) | false ↦ all-where_key Q p es all.1 ]
-
 -- what holds of each entry's value holds of the one that is found
 pub all-find : {K X : Type 0} (R : K → K → Ordering) (Q : K × X → Type 0) (S : X → Type 0) → ((e : K × X) → Q e → S e.1) → (k : K) (es : List (K × X)) → AllByRecursion Q es → IfSome (find R k es) S
 all-find R Q S value k [] all = tt
@@ -92,16 +78,3 @@ module _ {K : Type 0} {R : K → K → Ordering} (o : IsTotalOrder R) where
         | true ↦ λ p. let gone : total others + 0 ≡ total es = subst (λ (f : Option ℕ). total others + unwrap_or f 0 ≡ total es) (below_tied o k e.0 es (is_equal (R k e.0) p) (left (below_all R e.0 es) (is_sorted R es) h)) rest in omega (arith, gone)
         | false ↦ λ p. omega (arith, rest)
       ] refl
-
--- of each key and of each value, and of each entry
-pub all_pairs : {K X : Type 0} (P : K → Type 0) (S : X → Type 0) (es : List (K × X)) → AllByRecursion P (map (λ e. e.0) es) → AllByRecursion S (map (λ e. e.1) es) → AllByRecursion (λ e. P e.0 × S e.1) es
-all_pairs P S [] ps ss = tt
-all_pairs P S (e ∷ es) ps ss = ((ps.0, ss.0), all_pairs P S es ps.1 ss.1)
-
-pub all_firsts : {K X : Type 0} (P : K → Type 0) (S : X → Type 0) (es : List (K × X)) → AllByRecursion (λ e. P e.0 × S e.1) es → AllByRecursion P (map (λ e. e.0) es)
-all_firsts P S [] all = tt
-all_firsts P S (e ∷ es) all = (all.0.0, all_firsts P S es all.1)
-
-pub all_seconds : {K X : Type 0} (P : K → Type 0) (S : X → Type 0) (es : List (K × X)) → AllByRecursion (λ e. P e.0 × S e.1) es → AllByRecursion S (map (λ e. e.1) es)
-all_seconds P S [] all = tt
-all_seconds P S (e ∷ es) all = (all.0.1, all_seconds P S es all.1)

@@ -2,5 +2,5 @@ pub mod Entries
 pub mod Balances
 pub mod Over
 pub mod Paying
-pub mod Touching
 pub mod Cases
+pub mod Runs

@@ -3,8 +3,9 @@ use Rattle.std.specs.Prelude.{ℕ, List, [], ◌∷◌, All, map}
 use Rattle.std.specs.Ordering.{nat_cmp}
 use Rattle.std.specs.Cmp.Lexicographic.{slice_cmp}
 use Rattle.std.specs.List.Sorted.{IsStrictlySortedBy}
+use Rattle.cell_names.specs.Accounts.{IsImplicit}
 use Rattle.ledger_state.specs.declared.holding.Holding.{Holding}
-use Rattle.ledger_state.specs.Ledger.{Balances, with_balance, AreBalances, IsImplicit}
+use Rattle.ledger_state.specs.Ledger.{Balances, with_balance, AreBalances}
 
 -- an address with what it has now
 abbrev pub Entry : Type 0

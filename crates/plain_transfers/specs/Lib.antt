@@ -1,6 +1,5 @@
 -- what the public contracts rest on
 pub mod Serial
-pub mod Touches
+pub mod Run
 -- what functions inside promise each other
-pub mod Few
 pub mod Changes

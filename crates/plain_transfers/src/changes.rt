@@ -3,29 +3,32 @@ ghost use Rattle.std.specs.Prelude.{◌≡◌, ◌≤◌, IfOk, OnOk, OnErr, IsS
 ghost use Rattle.std.specs.Ordering.{nat_cmp};
 ghost use Rattle.std.specs.Cmp.Lexicographic.{slice_cmp};
 ghost use Rattle.std.specs.BTreeMap.{IsOrdered, get, keys};
-ghost use Rattle.ledger_state.specs.Ledger.{Balances, IsImplicit, balance, supply, with_balance};
+ghost use Rattle.cell_names.specs.Accounts.{IsImplicit};
+ghost use Rattle.ledger_state.specs.Ledger.{Balances, balance, supply, with_balance};
 ghost use Rattle.plain_transfers.specs.Changes.{AreChanges, holding_of, over};
 ghost use Rattle.plain_transfers.specs.Serial.{credited, debited};
 
+use crate::account::Account;
 use ledger_state::{Holding, NoMemory, State};
 use std::alloc::Global;
 use std::collections::BTreeMap;
+use value_core::Address;
 
 /// What some accounts have now, by address.
-pub(crate) type Changes = BTreeMap<[u8; 22], u64>;
+pub(crate) type Changes = BTreeMap<Account, u64>;
 
 /// What an account has now.
-pub(crate) fn balance_in(state: &State, changes: &Changes, address: &[u8; 22]) -> u64
+pub(crate) fn balance_in(state: &State, changes: &Changes, address: &Address) -> u64
     ensures { result ≡ balance (over state.now.balances changes.now.entries) address.now }
 {
-    match changes.get(address) {
+    match changes.get(&Account(*address)) {
         Some(amount) => *amount,
         None => state.balance(address),
     }
 }
 
 /// Writes what an account has now. It takes no memory where the account changed before.
-fn put(changes: &mut Changes, address: [u8; 22], amount: u64) -> Result<(), NoMemory>
+fn put(changes: &mut Changes, address: Address, amount: u64) -> Result<(), NoMemory>
     ensures written { OnOk result ((m : Balances)
         → over m changes.new.entries ≡ with_balance (over m changes.old.entries) address amount) }
     ensures present { OnOk result (get (slice_cmp nat_cmp) changes.new address ≡ Some amount) }
@@ -37,7 +40,7 @@ fn put(changes: &mut Changes, address: [u8; 22], amount: u64) -> Result<(), NoMe
     ensures absent { OnErr result (get (slice_cmp nat_cmp) changes.old address ≡ None) }
     ensures unchanged { OnErr result (changes.new.entries ≡ changes.old.entries) }
 {
-    changes.insert(address, amount)?;
+    changes.insert(Account(address), amount)?;
     Ok(())
 }
 
@@ -45,8 +48,8 @@ fn put(changes: &mut Changes, address: [u8; 22], amount: u64) -> Result<(), NoMe
 pub(crate) fn pay(
     state: &State,
     changes: &mut Changes,
-    source: [u8; 22],
-    dest: [u8; 22],
+    source: Address,
+    dest: Address,
     amount: u64,
 ) -> Result<(), NoMemory>
     requires source { IsImplicit source }
@@ -54,7 +57,8 @@ pub(crate) fn pay(
     requires lawful { AreChanges state.now.balances changes.old.entries }
     requires enough { amount ≤ balance (over state.now.balances changes.old.entries) source }
     ensures paid { OnOk result (over state.now.balances changes.new.entries
-        ≡ credited (debited (over state.now.balances changes.old.entries) source amount) dest amount) }
+        ≡ credited (debited (over state.now.balances changes.old.entries) source amount)
+        dest amount) }
     ensures unchanged { OnErr result (over state.now.balances changes.new.entries
         ≡ over state.now.balances changes.old.entries) }
     ensures lawful { AreChanges state.now.balances changes.new.entries }
@@ -78,7 +82,7 @@ pub(crate) fn holdings_of(alloc: Global, changes: &Changes) -> Result<Vec<Holdin
     changes
         .iter()
         .map(|(address, amount)| Holding {
-            address: *address,
+            address: address.0,
             amount: *amount,
         })
         .collect(alloc)

@@ -1,15 +1,17 @@
 //! A state's balances, with what changed kept apart.
 ghost use Rattle.std.specs.Prelude.{◌≡◌, IfOk, OnOk, OnErr};
-ghost use Rattle.ledger_state.specs.Ledger.{AreBalances, IsImplicit, balance, supply};
+ghost use Rattle.cell_names.specs.Accounts.{IsImplicit};
+ghost use Rattle.ledger_state.specs.Ledger.{AreBalances, balance, supply};
 ghost use Rattle.plain_transfers.specs.Serial.{serial};
 
 use crate::changes::{Changes, balance_in, holdings_of, pay};
-use crate::footprint::Footprint;
 use block_codec::{Receipt, Transfer};
+use cell_names::{Cell, Footprint, Mode};
 use ledger_state::{Head, NoMemory, State};
 use std::alloc::Global;
 use std::collections::BTreeMap;
 use std::marker::Model;
+use value_core::Address;
 
 const APPLIED: Receipt = Receipt {
     applied: true,
@@ -20,13 +22,6 @@ const TOO_LOW: Receipt = Receipt {
     applied: false,
     gas: 0,
 };
-
-/// What a transfer leaves, beside the balances.
-#[derive(Clone, Copy, Debug)]
-pub struct Ran {
-    pub receipt: Receipt,
-    pub footprint: Footprint,
-}
 
 /// A state's balances after some transfers.
 #[derive(Drop)]
@@ -65,7 +60,7 @@ impl<'a> Overlay<'a> {
     }
 
     /// What the account of this address has.
-    pub fn balance(&self, address: &[u8; 22]) -> u64
+    pub fn balance(&self, address: &Address) -> u64
         ensures { result ≡ balance self.now address.now }
     {
         balance_in(self.state, &self.changes, address)
@@ -73,42 +68,41 @@ impl<'a> Overlay<'a> {
 }
 
 impl Overlay<'_> {
-    /// Runs a transfer. It may want memory for the accounts that change for the first time.
-    pub fn run(&mut self, transfer: &Transfer) -> Result<Ran, NoMemory>
+    /// Runs a transfer. It wants memory for the footprint, and for accounts that change for the
+    /// first time.
+    pub fn run(
+        &mut self,
+        alloc: Global,
+        transfer: &Transfer,
+    ) -> Result<(Receipt, Footprint), NoMemory>
         requires source { IsImplicit transfer.now.source }
         requires dest { IsImplicit transfer.now.dest }
         ensures balances { OnOk result (self.new ≡ (serial self.old transfer.now).balances) }
-        ensures receipt { IfOk result (λ r. r.receipt ≡ (serial self.old transfer.now).receipt) }
-        ensures footprint { IfOk result (λ r. r.footprint ≡ (serial self.old transfer.now).footprint) }
+        ensures receipt { IfOk result (λ r. r.0 ≡ (serial self.old transfer.now).receipt) }
+        ensures footprint { IfOk result (λ r. r.1 ≡ (serial self.old transfer.now).footprint) }
         ensures unchanged { OnErr result (self.new ≡ self.old) }
         ensures supply { supply self.new ≡ supply self.old }
         ensures lawful { AreBalances self.new }
     {
         let _ = &self.state;
+        let mut footprint = Footprint::new(alloc);
         if transfer.amount == 0 {
-            return Ok(Ran {
-                receipt: APPLIED,
-                footprint: Footprint::new(),
-            });
+            return Ok((APPLIED, footprint));
         }
-        let source = transfer.source;
-        if self.balance(&source) < transfer.amount {
-            return Ok(Ran {
-                receipt: TOO_LOW,
-                footprint: Footprint::debit(source),
-            });
+        footprint.touch(alloc, &Cell::Balance(transfer.source), Mode::Own)?;
+        if self.balance(&transfer.source) < transfer.amount {
+            return Ok((TOO_LOW, footprint));
         }
+        // The footprint first: behind the payment nothing can fail.
+        footprint.touch(alloc, &Cell::Balance(transfer.dest), Mode::Credit)?;
         pay(
             self.state,
             &mut self.changes,
-            source,
+            transfer.source,
             transfer.dest,
             transfer.amount,
         )?;
-        Ok(Ran {
-            receipt: APPLIED,
-            footprint: Footprint::debit_and_credit(source, transfer.dest),
-        })
+        Ok((APPLIED, footprint))
     }
 
     /// The state with this head and these balances.

@@ -1,21 +1,34 @@
 //! The ends of a transfer, on a state in which 0a has 100 and 0c has 50.
 
-ghost use Rattle.ledger_state.specs.Ledger.{IsImplicit};
+ghost use Rattle.std.specs.Prelude.{IfOk};
+ghost use Rattle.cell_names.specs.Accounts.{IsImplicit};
 
-use crate::Overlay;
-use block_codec::{Mode, Touch, Transfer};
+use crate::{Overlay, supply_is_kept};
+use block_codec::Transfer;
+use cell_names::{Cell, Footprint, Mode};
 use ledger_state::{Head, read_state};
+use std::alloc::Global;
 use std::test::Fail;
+use value_core::Address;
 
 const STATE: &[u8] =
     b"FJS1\x00\x00\x00\x00\x00\x00\x00\x00\x00\x00\x00\x00\x00\x00\x00\x00\x00\x00\x00\x02\x00\x00\x00\x00\x00\x00\x00\x00\x00\x00\x00\x00\x00\x00\x00\x00\x00\x00\x00\x00\x00\x00\x0a\x05\x00\x00\x00\x00\x00\x00\x00d\x00\x00\x00\x00\x00\x00\x00\x00\x00\x00\x00\x00\x00\x00\x00\x00\x00\x00\x00\x00\x00\x00\x0c\x05\x00\x00\x00\x00\x00\x00\x002";
 
-fn account(last: u8) -> [u8; 22]
-    ensures { IsImplicit result }
+fn account(last: u8) -> Result<Address, Fail>
+    ensures { IfOk result (λ a. IsImplicit a) }
 {
-    [
+    let bytes = [
         0, 0, 0, 0, 0, 0, 0, 0, 0, 0, 0, 0, 0, 0, 0, 0, 0, 0, 0, 0, 0, last,
-    ]
+    ];
+    Ok(Address::from_bytes(&bytes).ok().ok_or("no address")?)
+}
+
+fn footprint(alloc: Global, touched: &[(u8, Mode)]) -> Result<Footprint, Fail> {
+    let mut footprint = Footprint::new(alloc);
+    for (last, mode) in touched {
+        footprint.touch(alloc, &Cell::Balance(account(*last)?), *mode)?;
+    }
+    Ok(footprint)
 }
 
 struct Row {
@@ -81,36 +94,30 @@ const ROWS: [Row; 6] = [
 
 #[test]
 fn each_transfer_ends_as_by_hand(rt: HostRuntime) -> Result<(), Fail> {
-    let state = read_state(rt.alloc(), STATE).expect(&rt, "a state");
+    let state = read_state(rt.alloc(), STATE).ok().ok_or("a state")?;
     for row in ROWS.iter() {
         let mut overlay = Overlay::new(rt.alloc(), &state);
         let transfer = Transfer {
-            source: account(row.source),
-            dest: account(row.dest),
+            source: account(row.source)?,
+            dest: account(row.dest)?,
             amount: row.amount,
             gas: 0,
             turns: 0,
         };
-        let ran = overlay.run(&transfer)?;
-        assert_eq!(rt; (ran.receipt.applied, ran.receipt.gas), (row.applied, 0));
-        let mut published = Vec::new(rt.alloc());
-        for (last, mode) in row.touched.iter() {
-            published.push(Touch {
-                address: account(*last),
-                mode: *mode,
-            })?;
-        }
-        assert!(rt; ran.footprint.is_listed(&published));
+        let (receipt, touched) = overlay.run(rt.alloc(), &transfer)?;
+        assert_eq!(rt; (receipt.applied, receipt.gas), (row.applied, 0));
+        assert!(rt; touched.same(&footprint(rt.alloc(), row.touched)?));
         let next = overlay.finish(rt.alloc(), Head { level: 1, now: 60 })?;
         assert_eq!(rt; next.head(), Head { level: 1, now: 60 });
         assert_eq!(rt;
             [
-                next.balance(&account(0x0a)),
-                next.balance(&account(0x0b)),
-                next.balance(&account(0x0c))
+                next.balance(&account(0x0a)?),
+                next.balance(&account(0x0b)?),
+                next.balance(&account(0x0c)?)
             ],
             row.balances
         );
     }
+    supply_is_kept();
     Ok(())
 }

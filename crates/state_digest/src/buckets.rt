@@ -51,7 +51,7 @@ fn feed(hasher: &mut Sha256, holding: &Holding)
         → Holds256 hasher.new (m ++ cell (pair holding.now)) }
 {
     hasher.update(&[BALANCE]);
-    hasher.update(&holding.address);
+    hasher.update(holding.address.bytes());
     hasher.update(&[MUTEZ]);
     hasher.update(&holding.amount.to_be_bytes());
 }
@@ -62,7 +62,7 @@ pub(crate) fn put_cell(hashers: &mut Vec<Sha256>, holding: &Holding)
     ensures { (es : List Entry) → HoldBuckets hashers.old.items es
         → HoldBuckets hashers.new.items (es ++ pair holding.now ∷ []) }
 {
-    let k = bucket(&holding.address) as usize;
+    let k = bucket(holding.address.bytes()) as usize;
     feed(&mut hashers[k], holding);
 }
 

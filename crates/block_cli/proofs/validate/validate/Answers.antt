@@ -1,8 +1,9 @@
-use Rattle.std.proofs.Common.{◌≡◌, List, ℕ, Err, refl, sym, ap, subst, ◌∙◌}
-use Rattle.block_cli.specs.Meaning.{Answer, judged}
+use Rattle.std.proofs.Common.{List, ℕ, Err, refl, subst}
+use Rattle.block_cli.specs.Meaning.{IsJudged}
 use Rattle.block_cli.specs.Seen.{Seen, seen_of}
-use Rattle.block_cli.specs.Runs.{Means}
-use Rattle.block_cli.specs.Inside.{view, answer_in, ReadsBoth}
+use Rattle.block_cli.specs.Causes.{Means}
+use Rattle.block_cli.specs.Judging.{answer_in}
+use Rattle.block_cli.specs.Inside.{view, ReadsBoth}
 use Rattle.block_cli.specs.declared.validate.Stop.{Stop}
 use Rattle.block_cli.proofs.Ending.{ended, both_read, state_long, block_long}
 use Rattle.block_cli.proofs.validate.validate.Goals as goal
@@ -35,6 +36,6 @@ returns g c =
     let mid = seen_of (files c.read_both.new.files) (sink c.args.out.now) in
     let new = seen_of (files c.finish.new.files) (sink c.finish.new.out) in
     let read = c.in-Ok.ensures.read in
-    let is : judged command c.in-Ok.state.items c.in-Ok.block.items ≡ answer = sym (◌∙◌ {b = judged command c.in-Ok.state.items c.deref.result.now} c.in-Ok-judge.ensures (ap (λ (b : List ℕ). judged command c.in-Ok.state.items b) c.deref.ensures.value)) in
-    let means : (last : Seen) → Means command answer old last = λ last. subst (λ (a : Answer). Means command a old last) is (both_read command old last c.in-Ok.state.items c.in-Ok.block.items read.0 read.1) in
+    let is : IsJudged command c.in-Ok.state.items c.in-Ok.block.items answer = subst (λ (b : List ℕ). IsJudged command c.in-Ok.state.items b answer) c.deref.ensures.value c.in-Ok-judge.ensures in
+    let means : (last : Seen) → Means command answer old last = λ last. both_read command old last c.in-Ok.state.items c.in-Ok.block.items answer read.0 read.1 is in
     ended command answer old mid new c.finish.result c.in-Ok.ensures.goes c.in-Ok.ensures.same refl means c.finish.ensures

@@ -1,6 +1,7 @@
+-- The clauses of a block, by what is told of it.
 use Rattle.std.proofs.Common.{arith}
-use Rattle.byte_fields.proofs.Places.{all_is_found, all_is_told}
-use Rattle.block_codec.proofs.BlockLaws.{block_reads}
+use Rattle.cell_names.proofs.PartTold.{all_is_found, all_is_told}
+use Rattle.block_codec.proofs.BlockLaw.{block_reads}
 use Rattle.block_codec.proofs.reader.read_block.Goals as goal
 
 pub returns-clause-found : goal.returns-clause-found

@@ -1,5 +1,5 @@
 use Rattle.std.proofs.Common.{arith}
-use Rattle.byte_fields.proofs.Places.{all_is_found, all_is_told}
+use Rattle.cell_names.proofs.PartTold.{all_is_found, all_is_told}
 use Rattle.ledger_state.proofs.FileLaws.{ledger_reads}
 use Rattle.ledger_state.proofs.reader.read_state.Goals as goal
 

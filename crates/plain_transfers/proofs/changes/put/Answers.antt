@@ -1,10 +1,10 @@
 -- One more change.
 use Rattle.std.proofs.Common.{rules, sym, subst, List, ℕ}
-use Rattle.ledger_state.specs.Ledger.{IsImplicit}
 use Rattle.std.specs.Ordering.{nat_cmp}
 use Rattle.std.specs.Cmp.Lexicographic.{slice_cmp}
 use Rattle.std.specs.Prelude.{All, map, IsSome, Option, Some, Bool, true, false, cond}
 use Rattle.std.proofs.lemmas.Map.Views.{All-keys-insert_entry}
+use Rattle.cell_names.specs.Accounts.{IsImplicit}
 use Rattle.plain_transfers.specs.Changes.{Entry}
 use Rattle.plain_transfers.proofs.Over.{over-written}
 use Rattle.plain_transfers.proofs.changes.put.Goals as goal

@@ -6,12 +6,12 @@ use Rattle.ledger_state.specs.Ledger.{pair}
 use Rattle.state_digest.specs.Buckets.{HoldBuckets}
 use Rattle.state_digest.proofs.state.digest.Goals as goal
 
-map_take-more : {A B : Type 0} (f : A → B) (xs : List A) (i : ℕ) (d : A) → i < length xs → map f (take i xs) ++ f (get_or xs i d) ∷ [] ≡ map f (take (i + 1) xs)
-map_take-more f xs i d below = rw (add-one, take-suc xs i d below, map-append)
+map_take-more : {A B : Type 0} (f : A → B) (xs : List A) (i : ℕ) (x d : A) → x ≡ get_or xs i d → i < length xs → map f (take i xs) ++ f x ∷ [] ≡ map f (take (i + 1) xs)
+map_take-more f xs i x d is below = rw (is, add-one, take-suc xs i d below, map-append)
 
 pub loop-holding-preserved : goal.loop-holding-preserved
 loop-holding-preserved c =
     let hs = c.holdings-holding-items.result.now in
     let i = c.loop-holding.holding-index in
-    subst (HoldBuckets c.put_cell.new.hashers.items) (map_take-more pair hs i _ c.loop-holding-test.true)
+    subst (HoldBuckets c.put_cell.new.hashers.items) (map_take-more pair hs i c.holding-item.result _ c.holding-item.is c.loop-holding-test.true)
     (c.put_cell.ensures (map pair (take i hs)) c.loop-holding.invariant)

@@ -1,7 +1,8 @@
 -- The changes are what the next state asks for.
 use Rattle.std.proofs.Common.{◌≡◌, ◌<◌, ◌^◌, List, ap, sym, subst, ◌∙◌}
 use Rattle.std.specs.Prelude.{All, IfOk}
-use Rattle.ledger_state.specs.Ledger.{Ascends, Balances, IsImplicit, changed, supply}
+use Rattle.cell_names.specs.Accounts.{IsImplicit}
+use Rattle.ledger_state.specs.Ledger.{Ascends, Balances, changed, supply}
 use Rattle.ledger_state.specs.declared.holding.Holding.{Holding}
 use Rattle.plain_transfers.proofs.Over.{Ascends-holdings, All-holdings, over-holdings}
 use Rattle.plain_transfers.proofs.overlay.Overlay.finish.Goals as goal

@@ -1,0 +1,38 @@
+-- One more item of a list that is read, or spelt.
+use Rattle.std.proofs.Common.{◌≡◌, ℕ, ◌+◌, ◌-◌, ◌<◌, List, [], ◌∷◌, ◌++◌, length, take, Some, None, Ok, refl, sym, ap, subst, ◌∙◌, append_assoc}
+use Rattle.std.specs.Prelude.{slice_get}
+use Rattle.std.specs.List.{flat_map}
+use Rattle.std.proofs.lemmas.List.{take_more, append-nil}
+use Rattle.std.proofs.lemmas.List.Concat.{flat_map-append, flat_map-cons}
+use Rattle.std.proofs.lemmas.Option.{slice_get_within, get_or_from_slice_get, slice_get-get_or}
+use Rattle.cell_names.specs.declared.fault.FormatStop.{FormatStop}
+use Rattle.cell_names.specs.Partial.{Reading, PartReader, many}
+use Rattle.cell_names.specs.Answers.{Stops}
+use Rattle.cell_names.proofs.PartLoops.{with_front, goes_on, ends}
+
+-- ---- reading items that know nothing of each other
+
+module _ {A : Type 0} (read : PartReader A) (front : List A) (count i : ℕ) (bytes : List ℕ) (total : Reading (List A)) (lt : i < count) (so_far : with_front front (many read (count - i) bytes) ≡ total) where
+  pub one_more : (new : List A) (a : A) (rest : List ℕ) → new ≡ front ++ a ∷ [] → read bytes ≡ Ok (a, rest) → with_front new (many read (count - (i + 1)) rest) ≡ total
+  one_more new a rest is was =
+      subst (λ (l : List A). with_front l (many read (count - (i + 1)) rest) ≡ total) (sym is)
+      (goes_on {S = Unit {0}} (λ state. read) (λ state a. state) tt tt front count i bytes a rest total lt was refl so_far)
+
+  pub stops_all : (e : FormatStop) → Stops e (read bytes) → Stops e total
+  stops_all e stopped = ends {S = Unit {0}} e (λ state. read) (λ state a. state) tt front count i bytes total lt stopped so_far
+
+-- ---- spelling
+
+-- one more element is spelt behind those before it
+pub spelt_more : {A : Type 0} (spell : A → List ℕ) (xs : List A) (i : ℕ) (x : A) (before out new : List ℕ) → Some x ≡ slice_get xs i →
+    out ≡ before ++ flat_map spell (take i xs) → new ≡ out ++ spell x → new ≡ before ++ flat_map spell (take (i + 1) xs)
+spelt_more {A} spell xs i x before out new here so_far is =
+    let within : i < length xs = slice_get_within xs i x (sym here) in
+    let one : take (i + 1) xs ≡ take i xs ++ x ∷ [] = take_more xs i x within ∙ ap (λ (y : A). take i xs ++ y ∷ []) (get_or_from_slice_get xs i x x (sym here)) in
+    let last : flat_map spell (x ∷ []) ≡ spell x = flat_map-cons spell x [] ∙ append-nil (spell x) in
+    is ∙ ap (λ (l : List ℕ). l ++ spell x) so_far ∙ append_assoc before (flat_map spell (take i xs)) (spell x)
+    ∙ ap (λ (l : List ℕ). before ++ l) (ap (λ (l : List ℕ). flat_map spell (take i xs) ++ l) (sym last) ∙ sym (flat_map-append spell (take i xs) (x ∷ [])) ∙ ap (flat_map spell) (sym one))
+
+-- an element stands at each place
+pub none_missing : {A : Type 0} (xs : List A) (i : ℕ) (d : A) → i < length xs → None ≡ slice_get xs i → ⊥
+none_missing xs i d lt e = let here = slice_get-get_or xs i d lt in cc

@@ -1,0 +1,28 @@
+-- Plain transfers, run one by one: the meaning of the operations of a block.
+use Rattle.std.specs.Prelude.{List, [], ◌∷◌}
+use Rattle.cell_names.specs.declared.cell.Cell.{Cell}
+use Rattle.cell_names.specs.declared.mode.Mode.{Mode}
+use Rattle.cell_names.specs.Accounts.{IsImplicit}
+use Rattle.ledger_state.specs.Ledger.{Balances}
+use Rattle.block_codec.specs.declared.transfer.Receipt.{Receipt}
+use Rattle.block_codec.specs.declared.transfer.Transfer.{Transfer}
+use Rattle.plain_transfers.specs.Serial.{serial}
+
+-- what transfers leave: the balances, and the receipt and the footprint of each
+pub record Run : Type 0 where
+  pub balances : Balances
+  pub receipts : List Receipt
+  pub footprints : List (List (Cell × Mode))
+
+-- each on the balances that those before it leave
+abbrev pub run_all : Balances → List Transfer → Run
+run_all m [] = record { balances = m; receipts = []; footprints = [] }
+run_all m (t ∷ ts) =
+    let first = serial m t in
+    let rest = run_all first.balances ts in
+    record { balances = rest.balances; receipts = first.receipt ∷ rest.receipts; footprints = first.footprint ∷ rest.footprints }
+
+-- from one implicit account to another, or to itself
+pub record IsPlain (t : Transfer) : Type 0 where
+  pub source : IsImplicit t.source
+  pub dest : IsImplicit t.dest
