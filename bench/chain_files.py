@@ -55,22 +55,49 @@ def block_bytes(parent, level, time, ops, joins, footprints, receipts, state):
             + b''.join(map(footprint_bytes, footprints)) + b''.join(receipt_bytes(*r) for r in receipts) + state)
 
 
-def transfer(balances, source, dest, amount):
-    """The serial meaning of a plain transfer: the balances after it, its receipt and its footprint."""
-    if amount == 0:
-        return balances, (APPLIED,), []
-    have = dict(balances)
-    if have.get(source, 0) < amount:
-        return balances, (BALANCE_TOO_LOW,), [(source, OWN)]
-    have[source] -= amount
-    have[dest] = have.get(dest, 0) + amount
-    touched = [(source, OWN)] if source == dest else [(source, OWN), (dest, CREDIT)]
-    return sorted((a, n) for a, n in have.items() if n), (APPLIED,), sorted(touched)
+def run_all(balances, transfers):
+    """The serial run of plain transfers (source, dest, amount): the balances after it, the receipts and the footprints."""
+    have, receipts, footprints = dict(balances), [], []
+    for source, dest, amount in transfers:
+        if amount == 0:
+            receipts.append((APPLIED,))
+            footprints.append([])
+        elif have.get(source, 0) < amount:
+            receipts.append((BALANCE_TOO_LOW,))
+            footprints.append([(source, OWN)])
+        else:
+            have[source] -= amount
+            have[dest] = have.get(dest, 0) + amount
+            receipts.append((APPLIED,))
+            footprints.append(sorted([(source, OWN)] if source == dest else [(source, OWN), (dest, CREDIT)]))
+    return sorted((a, n) for a, n in have.items() if n), receipts, footprints
 
 
-def honest_block(level, time, balances, source, dest, amount):
-    """A block of one transfer on a state of this level, and the balances after it."""
-    after, receipt, footprint = transfer(balances, source, dest, amount)
-    block = block_bytes(digest(balances), level + 1, time, [op_bytes(source, dest, amount)], [[]], [footprint], [receipt],
-                        digest(after))
+def conflicting(one, other):
+    """Whether two footprints share a cell, in modes other than Read twice and Credit twice."""
+    held = dict(one)
+    return any(a in held and (held[a] != m or m == OWN) for a, m in other)
+
+
+def reduced_joins(footprints):
+    """For each operation the conflicting earlier ones that are before no other conflicting earlier one."""
+    joins, before = [], []
+    for j, footprint in enumerate(footprints):
+        found = [i for i in range(j) if conflicting(footprints[i], footprint)]
+        joins.append([i for i in found if not any(i in before[k] for k in found if k > i)])
+        before.append(set(joins[j]).union(*(before[i] for i in joins[j])))
+    return joins
+
+
+def block_on(balances, transfers, level=0, time=60, joins=None, after=None, footprints=None, receipts=None):
+    """A block of these transfers on a state of this level, and the balances after it.
+
+    Whatever isn't given is as the serial run has it, and the joins are as few as order all conflicts.
+    """
+    ran, serial_receipts, serial_footprints = run_all(balances, transfers)
+    footprints = serial_footprints if footprints is None else footprints
+    joins = reduced_joins(footprints) if joins is None else joins
+    after = ran if after is None else after
+    block = block_bytes(digest(balances), level + 1, time, [op_bytes(*t) for t in transfers], joins, footprints,
+                        serial_receipts if receipts is None else receipts, digest(after))
     return block, after

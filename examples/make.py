@@ -11,17 +11,18 @@ import sys
 
 HERE = os.path.dirname(os.path.abspath(__file__))
 sys.path.insert(0, os.path.join(HERE, '..', 'bench'))
-from chain_files import (APPLIED, BALANCE_TOO_LOW, CREDIT, OWN, READ, account, block_bytes, cell, digest,  # noqa: E402
-                         honest_block, op_bytes, state_bytes)
+from chain_files import (APPLIED, BALANCE_TOO_LOW, CREDIT, OWN, READ, account, block_bytes, block_on, cell,  # noqa: E402
+                         digest, op_bytes, state_bytes)
 
 A, B, C, T = (account(n) for n in (10, 11, 12, 13))
+CONTRACT = b'\x01' + B[1:]
 OPENING = [(A, 100), (C, 50)]
 STATE = state_bytes(0, 0, OPENING)
 USAGE = ('usage: compile SRC OUT | check CODE | genesis TEXT STATE | mine STATE OPS BLOCK NEXT WORKERS | '
          'validate STATE BLOCK NEXT WORKERS | show STATE | load NUMBER COUNT WORKERS\n')
 WORDS = 'validate state block next 1'
 LATEST_LEVEL = 2 ** 32 - 1
-GROUPS = ('accepted', 'differs', 'other_form', 'states', 'words', 'files')
+GROUPS = ('accepted', 'refused', 'malformed', 'not_yet', 'many', 'states', 'words', 'files')
 
 written = set()
 
@@ -46,10 +47,10 @@ def accepted(name, block, level, time, balances, state=STATE, words=WORDS):
 
 
 def accepted_transfer(name, source, dest, amount, balances=OPENING, **op):
-    after_block, after = honest_block(0, 60, balances, source, dest, amount)
+    block, after = block_on(balances, [(source, dest, amount)])
     if op:
-        after_block = edited(after_block, 52, op_bytes(source, dest, amount, **op))
-    accepted(name, after_block, 1, 60, after, state_bytes(0, 0, balances))
+        block = edited(block, 52, op_bytes(source, dest, amount, **op))
+    accepted(name, block, 1, 60, after, state_bytes(0, 0, balances))
 
 
 def refused(group, name, block, verdict, state=STATE):
@@ -69,7 +70,7 @@ def block_of(op, footprint, receipt, joins=(), after=OPENING, level=1, time=60, 
 
 
 EMPTY = block_bytes(digest(OPENING), 1, 60, [], [], [], [], digest(OPENING))
-SENT, SENT_AFTER = honest_block(0, 60, OPENING, A, B, 10)
+SENT, SENT_AFTER = block_on(OPENING, [(A, B, 10)])
 assert len(EMPTY) == 84 and len(SENT) == 214 and len(STATE) == 88
 
 
@@ -95,89 +96,172 @@ def accepted_blocks():
     accepted('no_balances', block_bytes(digest([]), 1, 0, [], [], [], [], digest([])), 1, 0, [], state_bytes(0, 0, []))
 
 
-def differing_blocks():
+def refused_blocks():
     sent = op_bytes(A, B, 10)
     own_credit = [(A, OWN), (B, CREDIT)]
 
-    def differs(name, *args, **more):
-        refused('differs', name, block_of(*args, **more), 'Differs')
-    differs('receiver_in_mode_own', sent, [(A, OWN), (B, OWN)], (APPLIED,), after=SENT_AFTER)
-    differs('sender_in_mode_credit', sent, [(A, CREDIT), (B, CREDIT)], (APPLIED,), after=SENT_AFTER)
-    differs('receiver_in_mode_read', sent, [(A, OWN), (B, READ)], (APPLIED,), after=SENT_AFTER)
-    differs('receiver_is_missing', sent, [(A, OWN)], (APPLIED,), after=SENT_AFTER)
-    differs('another_receiver', sent, [(A, OWN), (T, CREDIT)], (APPLIED,), after=SENT_AFTER)
-    differs('empty_footprint', sent, [], (APPLIED,), after=SENT_AFTER)
-    differs('nothing_sent_and_a_footprint', op_bytes(A, B, 0), own_credit, (APPLIED,))
-    differs('failed_receipt', sent, own_credit, (BALANCE_TOO_LOW,), after=SENT_AFTER)
-    differs('applied_receipt', op_bytes(A, B, 101), [(A, OWN)], (APPLIED,))
-    differs('failed_and_the_receiver_touched', op_bytes(A, B, 101), own_credit, (BALANCE_TOO_LOW,))
-    differs('gas_in_the_receipt', sent, own_credit, (APPLIED, 1), after=SENT_AFTER)
-    differs('state_before_the_transfer', sent, own_credit, (APPLIED,))
-    differs('state_without_the_credit', sent, own_credit, (APPLIED,), after=[(A, 90), (C, 50)])
-    differs('parent_is_the_next_state', sent, own_credit, (APPLIED,), after=SENT_AFTER, parent=digest(SENT_AFTER))
-    differs('level_too_high', sent, own_credit, (APPLIED,), after=SENT_AFTER, level=2)
-    differs('level_as_before', sent, own_credit, (APPLIED,), after=SENT_AFTER, level=0)
-    refused('differs', 'time_before', SENT, 'Differs', state_bytes(0, 61, OPENING))
-    refused('differs', 'no_level_after_the_last', EMPTY, 'Differs', state_bytes(LATEST_LEVEL, 0, OPENING))
-    refused('differs', 'other_balances', EMPTY, 'Differs', state_bytes(0, 0, [(A, 100), (C, 51)]))
+    def refuses(name, verdict, *args, **more):
+        refused('refused', name, block_of(*args, **more), verdict)
+    footprint, receipt, state, parent = 'FootprintDiffers 0', 'ReceiptDiffers 0', 'StateDiffers', 'WrongParent'
+    refuses('receiver_in_mode_own', footprint, sent, [(A, OWN), (B, OWN)], (APPLIED,), after=SENT_AFTER)
+    refuses('sender_in_mode_credit', footprint, sent, [(A, CREDIT), (B, CREDIT)], (APPLIED,), after=SENT_AFTER)
+    refuses('receiver_in_mode_read', footprint, sent, [(A, OWN), (B, READ)], (APPLIED,), after=SENT_AFTER)
+    refuses('receiver_is_missing', footprint, sent, [(A, OWN)], (APPLIED,), after=SENT_AFTER)
+    refuses('another_receiver', footprint, sent, [(A, OWN), (T, CREDIT)], (APPLIED,), after=SENT_AFTER)
+    refuses('three_cells', footprint, sent, own_credit + [(T, CREDIT)], (APPLIED,), after=SENT_AFTER)
+    refuses('balance_of_a_contract', footprint, sent, [(A, OWN), (CONTRACT, CREDIT)], (APPLIED,), after=SENT_AFTER)
+    refuses('empty_footprint', footprint, sent, [], (APPLIED,), after=SENT_AFTER)
+    refuses('empty_footprint_and_failed_receipt', footprint, sent, [], (BALANCE_TOO_LOW,), after=SENT_AFTER)
+    refuses('nothing_sent_and_a_footprint', footprint, op_bytes(A, B, 0), own_credit, (APPLIED,))
+    refuses('failed_and_the_receiver_touched', footprint, op_bytes(A, B, 101), own_credit, (BALANCE_TOO_LOW,))
+    refuses('failed_receipt', receipt, sent, own_credit, (BALANCE_TOO_LOW,), after=SENT_AFTER)
+    refuses('failed_receipt_and_the_state_before', receipt, sent, own_credit, (BALANCE_TOO_LOW,))
+    refuses('applied_receipt', receipt, op_bytes(A, B, 101), [(A, OWN)], (APPLIED,))
+    refuses('gas_in_the_receipt', receipt, sent, own_credit, (APPLIED, 1), after=SENT_AFTER)
+    refuses('state_before_the_transfer', state, sent, own_credit, (APPLIED,))
+    refuses('state_without_the_credit', state, sent, own_credit, (APPLIED,), after=[(A, 90), (C, 50)])
+    refuses('parent_is_the_next_state', parent, sent, own_credit, (APPLIED,), after=SENT_AFTER, parent=digest(SENT_AFTER))
+    refuses('level_too_high', parent, sent, own_credit, (APPLIED,), after=SENT_AFTER, level=2)
+    refuses('level_as_before', parent, sent, own_credit, (APPLIED,), after=SENT_AFTER, level=0)
+    refuses('level_as_before_and_a_bad_join', parent, sent, own_credit, (APPLIED,), after=SENT_AFTER, level=0, joins=[0])
+    refuses('joined_to_itself', 'BadJoin 0', sent, own_credit, (APPLIED,), joins=[0], after=SENT_AFTER)
+    refused('refused', 'time_before', SENT, parent, state_bytes(0, 61, OPENING))
+    refused('refused', 'no_level_after_the_last', EMPTY, parent, state_bytes(LATEST_LEVEL, 0, OPENING))
+    refused('refused', 'other_balances', EMPTY, parent, state_bytes(0, 0, [(A, 100), (C, 51)]))
 
 
-def other_blocks():
+def malformed_blocks():
     sent = op_bytes(A, B, 10)
     own_credit = [(A, OWN), (B, CREDIT)]
-    contract = b'\x01' + B[1:]
 
-    def other(name, block):
-        refused('other_form', name, block, 'OtherForm')
+    def malformed(name, place, block):
+        refused('malformed', name, block, f'Malformed at {place}')
 
-    def other_of(name, *args, **more):
-        other(name, block_of(*args, after=SENT_AFTER, **more))
-    other('empty_file', b'')
-    other('other_magic', edited(SENT, 3, b'2'))
-    other('cut_by_one_byte', SENT[:-1])
-    other('cut_in_the_amount', SENT[:110])
-    other('one_byte_more', SENT + b'\x00')
-    other('empty_block_and_one_byte', EMPTY + b'\x00')
-    other('two_operations', block_bytes(digest(OPENING), 1, 60, [sent, sent], [[], []], [own_credit] * 2, [(APPLIED,)] * 2,
-                                        digest(SENT_AFTER)))
-    other('source_is_a_contract', edited(SENT, 52, b'\x01'))
-    other('destination_is_a_contract', edited(SENT, 74, b'\x01'))
-    other('source_of_no_kind', edited(SENT, 52, b'\x02'))
-    other_of('another_entry', op_bytes(A, B, 10, entry=b'defaulx'), own_credit, (APPLIED,))
-    other_of('a_longer_entry', op_bytes(A, B, 10, entry=b'defaults'), own_credit, (APPLIED,))
-    other_of('no_entry', op_bytes(A, B, 10, entry=b''), own_credit, (APPLIED,))
-    other_of('param_is_false', op_bytes(A, B, 10, param=b'\x01'), own_credit, (APPLIED,))
-    other_of('amount_of_2_to_63', op_bytes(A, B, 2 ** 63), own_credit, (APPLIED,))
-    other_of('gas_one_too_high', op_bytes(A, B, 10, gas=100_000_001), own_credit, (APPLIED,))
-    other_of('turns_one_too_high', op_bytes(A, B, 10, turns=1_000_001), own_credit, (APPLIED,))
-    other_of('a_join', sent, own_credit, (APPLIED,), joins=[0])
-    other_of('three_cells', sent, own_credit + [(T, CREDIT)], (APPLIED,))
-    other_of('cells_exchanged', sent, own_credit[::-1], (APPLIED,))
-    other_of('one_cell_twice', sent, [(A, OWN), (A, CREDIT)], (APPLIED,))
-    other_of('balance_of_a_contract', sent, [(A, OWN), (contract, CREDIT)], (APPLIED,))
-    other_of('mode_three', sent, [(A, OWN), (B, 3)], (APPLIED,))
-    other('storage_cell', edited(SENT, 130, b'\x01'))
-    other_of('receipt_tag_two', sent, own_credit, (2,))
+    def malformed_of(name, place, *args, **more):
+        malformed(name, place, block_of(*args, after=SENT_AFTER, **more))
+    malformed('empty_file', 0, b'')
+    malformed('other_magic', 0, edited(SENT, 3, b'2'))
+    malformed('cut_by_one_byte', 182, SENT[:-1])
+    malformed('cut_in_the_amount', 105, SENT[:110])
+    malformed('one_byte_more', 214, SENT + b'\x00')
+    malformed('empty_block_and_one_byte', 84, EMPTY + b'\x00')
+    malformed('two_operations_are_counted', 165, edited(SENT, 48, b'\x00\x00\x00\x02'))
+    malformed('513_operations_are_counted', 48, edited(SENT, 48, b'\x00\x00\x02\x01'))
+    malformed('source_is_a_contract', 52, edited(SENT, 52, b'\x01'))
+    malformed('source_of_no_kind', 52, edited(SENT, 52, b'\x02'))
+    malformed('destination_of_no_kind', 74, edited(SENT, 74, b'\x02'))
+    malformed('no_entry', 96, edited(SENT, 96, b'\x00'))
+    malformed('entry_of_32_bytes', 96, edited(SENT, 96, b'\x20'))
+    malformed('entry_with_a_blank', 97, edited(SENT, 100, b' '))
+    malformed('param_is_a_big_map', 104, edited(SENT, 104, b'\x12'))
+    malformed('param_of_no_kind', 104, edited(SENT, 104, b'\x13'))
+    malformed_of('amount_of_2_to_63', 105, op_bytes(A, B, 2 ** 63), own_credit, (APPLIED,))
+    malformed_of('gas_one_too_high', 113, op_bytes(A, B, 10, gas=100_000_001), own_credit, (APPLIED,))
+    malformed_of('turns_one_too_high', 117, op_bytes(A, B, 10, turns=1_000_001), own_credit, (APPLIED,))
+    malformed('513_joins_are_counted', 121, edited(SENT, 121, b'\x00\x00\x02\x01'))
+    malformed('257_cells_are_counted', 125, edited(SENT, 125, b'\x00\x00\x01\x01'))
+    malformed_of('cells_exchanged', 153, sent, own_credit[::-1], (APPLIED,))
+    malformed_of('one_cell_twice', 153, sent, [(A, OWN), (A, CREDIT)], (APPLIED,))
+    malformed_of('mode_three', 176, sent, [(A, OWN), (B, 3)], (APPLIED,))
+    malformed('cell_of_no_kind', 129, edited(SENT, 129, b'\x03'))
+    malformed_of('receipt_tag_15', 177, sent, own_credit, (15,))
+    eleven = [op_bytes(A, B, 0, gas=100_000_000)] * 10 + [op_bytes(A, B, 0, gas=1)]
+    malformed('gas_one_too_high_together', 52 + 10 * 69 + 61,
+              block_bytes(digest(OPENING), 1, 60, eleven, [[]] * 11, [[]] * 11, [(APPLIED,)] * 11, digest(OPENING)))
+
+
+def blocks_not_built_yet():
+    sent = op_bytes(A, B, 10)
+    own_credit = [(A, OWN), (B, CREDIT)]
+
+    def not_yet(name, place, block):
+        refused('not_yet', name, block, f'NotYet at {place}')
+    not_yet('destination_is_a_contract', 74, edited(SENT, 74, b'\x01'))
+    not_yet('another_entry', 97, edited(SENT, 97, b'defaulx'))
+    not_yet('an_entry_of_six_letters', 96, edited(SENT, 96, b'\x06'))
+    not_yet('an_entry_of_31_letters', 96, edited(SENT, 96, b'\x1f'))
+    not_yet('param_is_false', 104, edited(SENT, 104, b'\x01'))
+    not_yet('param_is_a_map', 104, edited(SENT, 104, b'\x11'))
+    not_yet('storage_cell', 129, edited(SENT, 129, b'\x01'))
+    not_yet('second_cell_is_an_entry', 153, edited(SENT, 153, b'\x02'))
+    not_yet('no_such_contract', 177, block_of(sent, own_credit, (2,), after=SENT_AFTER))
+    not_yet('too_many_calls', 177, block_of(sent, own_credit, (14,), after=SENT_AFTER))
+
+
+def blocks_of_many():
+    def many(name, transfers, verdict=None, joins=None, words=WORDS, **more):
+        block, after = block_on(OPENING, transfers, joins=joins, **more)
+        if verdict is None:
+            case('many', name, f'accepted, level 1, state {digest(after).hex()}\n', 0, words,
+                 {'state': STATE, 'block': block}, {'next': state_bytes(1, 60, after)})
+        else:
+            case('many', name, f'refused: {verdict}\n', 1, words, {'state': STATE, 'block': block})
+    balance_of = 'balance 0x{}'.format
+    too_little = [(A, B, 60), (A, C, 60)]
+    first, second = [(A, OWN), (B, CREDIT)], [(A, OWN)]
+    many('the_first_leaves_too_little', too_little)
+    many('the_first_leaves_too_little_without_its_join', too_little, f'Unordered 0 1 {balance_of(A.hex())}', [[], []])
+    many('the_first_leaves_too_little_with_an_empty_footprint', too_little, 'FootprintDiffers 1', [[], [0]], footprints=[first, []])
+    many('the_first_leaves_too_little_but_both_are_applied', too_little, 'ReceiptDiffers 1', receipts=[(APPLIED,), (APPLIED,)])
+    many('both_differ_and_the_first_is_told', too_little, 'ReceiptDiffers 0', footprints=[first, []],
+         receipts=[(BALANCE_TOO_LOW,), (APPLIED,)])
+    many('two_credits_of_one_account', [(A, T, 10), (C, T, 5)])
+    many('two_credits_of_one_account_with_64_workers', [(A, T, 10), (C, T, 5)], words='validate state block next 64')
+    many('the_first_leaves_too_little_without_its_join_with_64_workers', too_little, f'Unordered 0 1 {balance_of(A.hex())}', [[], []],
+         'validate state block next 64')
+    many('two_credits_of_one_account_joined', [(A, T, 10), (C, T, 5)], joins=[[], [0]])
+    many('out_of_a_credited_account', [(A, T, 10), (T, C, 1)])
+    many('out_of_an_account_before_it_is_credited', [(T, C, 1), (A, T, 10)])
+    many('credit_beside_owner_without_join', [(A, T, 10), (T, C, 1)], f'Unordered 0 1 {balance_of(T.hex())}', [[], []])
+    chain = [(A, B, 1), (A, C, 1), (A, T, 1)]
+    many('ordered_through_another', chain, joins=[[], [0], [1]])
+    many('ordered_by_all_joins', chain, joins=[[], [0], [0, 1]])
+    many('last_not_ordered_after_the_second', chain, f'Unordered 1 2 {balance_of(A.hex())}', [[], [0], [0]])
+    many('last_not_ordered_at_all', chain, f'Unordered 0 2 {balance_of(A.hex())}', [[], [0], []])
+    many('the_earlier_of_two_is_told', chain, f'Unordered 0 1 {balance_of(A.hex())}', [[], [], []])
+    swap = [(A, C, 1), (C, A, 1)]
+    many('the_least_cell_is_told', swap, f'Unordered 0 1 {balance_of(A.hex())}', [[], []])
+    many('joined_to_itself', chain, 'BadJoin 1', [[], [1], [1]])
+    many('joined_to_a_later_one', chain, 'BadJoin 0', [[2], [0], [1]])
+    many('joined_twice', chain, 'BadJoin 2', [[], [0], [1, 1]])
+    many('joins_that_fall', chain, 'BadJoin 2', [[], [0], [1, 0]])
+    many('joined_to_none_that_is_there', chain, 'BadJoin 2', [[], [0], [1, 4294967295]])
+    many('bad_join_before_a_conflict_without_order', chain, 'BadJoin 2', [[], [], [2]])
+    many('conflict_without_order_before_a_footprint', too_little, f'Unordered 0 1 {balance_of(A.hex())}', [[], []],
+         footprints=[[(A, OWN)], second])
+    many('state_before_the_last', too_little, 'StateDiffers', after=OPENING)
+    many('512_transfers_out_of_one_account', [(A, account(1000 + k), 0 if k % 2 else 1) for k in range(512)])
+    many('512_transfers_that_share_nothing', [(account(5000 + k), B, 1) for k in range(512)])
 
 
 def bad_states():
-    why = 'OtherForm'
-    contract = b'\x01' + A[1:]
-    bad_state('empty_file', b'', why)
-    bad_state('other_magic', edited(STATE, 3, b'2'), why)
-    bad_state('cut_by_one_byte', STATE[:-1], why)
-    bad_state('one_byte_more', STATE + b'\x00', why)
-    bad_state('one_contract', edited(STATE, 16, b'\x00\x00\x00\x01'), why)
-    bad_state('a_cell_more_than_there_are', edited(STATE, 20, b'\x00\x00\x00\x03'), why)
-    bad_state('a_cell_fewer_than_there_are', edited(STATE, 20, b'\x00\x00\x00\x01'), why)
-    bad_state('storage_cell', edited(STATE, 24, b'\x01'), why)
-    bad_state('balance_of_a_contract', state_bytes(0, 0, [(contract, 1)]), why)
-    bad_state('cells_exchanged', state_bytes(0, 0, OPENING[::-1]), why)
-    bad_state('one_cell_twice', state_bytes(0, 0, [(A, 1), (A, 1)]), why)
-    bad_state('balance_of_nothing', state_bytes(0, 0, [(A, 0)]), why)
-    bad_state('balance_of_2_to_63', state_bytes(0, 0, [(A, 2 ** 63)]), why)
-    bad_state('supply_of_2_to_63', state_bytes(0, 0, [(A, 2 ** 62), (C, 2 ** 62)]), why)
-    bad_state('value_is_a_nat', edited(STATE, 47, b'\x04'), why)
+    def malformed(name, place, state):
+        bad_state(name, state, f'Malformed at {place}')
+
+    def not_yet(name, place, state):
+        bad_state(name, state, f'NotYet at {place}')
+    malformed('empty_file', 0, b'')
+    malformed('other_magic', 0, edited(STATE, 3, b'2'))
+    malformed('cut_by_one_byte', 80, STATE[:-1])
+    malformed('one_byte_more', 88, STATE + b'\x00')
+    malformed('1025_contracts', 16, edited(STATE, 16, b'\x00\x00\x04\x01'))
+    malformed('a_cell_more_than_there_are', 88, edited(STATE, 20, b'\x00\x00\x00\x03'))
+    malformed('a_cell_fewer_than_there_are', 56, edited(STATE, 20, b'\x00\x00\x00\x01'))
+    malformed('cell_of_no_kind', 24, edited(STATE, 24, b'\x03'))
+    malformed('address_of_no_kind', 25, edited(STATE, 25, b'\x02'))
+    malformed('balance_of_a_contract', 47, state_bytes(0, 0, [(CONTRACT, 1)]))
+    malformed('cells_exchanged', 56, state_bytes(0, 0, OPENING[::-1]))
+    malformed('one_cell_twice', 56, state_bytes(0, 0, [(A, 1), (A, 1)]))
+    malformed('balance_of_nothing', 47, state_bytes(0, 0, [(A, 0)]))
+    malformed('balance_of_2_to_63', 48, state_bytes(0, 0, [(A, 2 ** 63)]))
+    malformed('supply_of_2_to_63', 79, state_bytes(0, 0, [(A, 2 ** 62), (C, 2 ** 62)]))
+    malformed('value_of_no_kind', 47, edited(STATE, 47, b'\x13'))
+    malformed('value_is_unit', 47, state_bytes(0, 0, [])[:20] + b'\x00\x00\x00\x01' + STATE[24:47] + b'\x00')
+    malformed('value_is_a_cut_text', 52, STATE[:20] + b'\x00\x00\x00\x01' + STATE[24:47] + b'\x07\x00\x00\x00\x05ab')
+    not_yet('one_contract', 16, edited(STATE, 16, b'\x00\x00\x00\x01'))
+    not_yet('1024_contracts', 16, edited(STATE, 16, b'\x00\x00\x04\x00'))
+    not_yet('storage_cell', 24, edited(STATE, 24, b'\x01'))
+    not_yet('entry_cell', 56, edited(STATE, 56, b'\x02'))
     assert STATE[47] == 5 and cell(A, 100) == STATE[24:56]
 
 
@@ -203,16 +287,17 @@ def words_and_files():
     case('files', 'block_is_missing', 'cannot read block\n', 3, WORDS, {'state': STATE})
     case('files', 'both_are_missing', 'cannot read state\n', 3)
     case('files', 'block_is_missing_and_the_state_is_bad', 'cannot read block\n', 3, WORDS, {'state': b''})
-    case('files', 'state_and_block_are_bad', 'state: OtherForm\n', 6, WORDS, {'state': b'', 'block': b''})
+    case('files', 'state_and_block_are_bad', 'state: Malformed at 0\n', 6, WORDS, {'state': b'', 'block': b''})
     case('files', 'next_cannot_be_written', 'cannot write nowhere/next\n', 4, 'validate state block nowhere/next 1', both)
-    case('files', 'refused_before_next_is_tried', 'refused: OtherForm\n', 1, 'validate state block nowhere/next 1',
+    case('files', 'refused_before_next_is_tried', 'refused: Malformed at 0\n', 1, 'validate state block nowhere/next 1',
          {'state': STATE, 'block': b''})
 
 
 def main():
     for group in GROUPS:
         shutil.rmtree(os.path.join(HERE, group), ignore_errors=True)
-    for make in (accepted_blocks, differing_blocks, other_blocks, bad_states, words_and_files):
+    for make in (accepted_blocks, refused_blocks, malformed_blocks, blocks_not_built_yet, blocks_of_many, bad_states,
+                 words_and_files):
         make()
     print(f'{len(written)} examples')
 
