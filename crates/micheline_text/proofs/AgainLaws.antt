@@ -158,7 +158,7 @@ first_is_blank p more rest = at p.1 refl
     at true e = rw e (inl refl)
     at false e = rw e (inl refl)
 
-placed_same : (n : Node) (m : Node) → unplaced_body m.body ≡ unplaced_body n.body → unplaced m ≡ unplaced n
+pub placed_same : (n : Node) (m : Node) → unplaced_body m.body ≡ unplaced_body n.body → unplaced m ≡ unplaced n
 placed_same n m e = unplaced_is m ∙ ap (node_at 0) e ∙ sym (unplaced_is n)
 
 args_again : (d : ℕ) → Inner d → (args : List Node) (at : ℕ) → AllByRecursion (λ n. IsFitArgument (IsInside d) n.body) args → Follow d at (flat_map argument (map print args)) [] args
@@ -214,7 +214,7 @@ application_again d h b at p =
       same = same;
     })
 
-node_again : (d : ℕ) → Inner d → (b : Body) (at : ℕ) → IsFitNode (IsInside d) b → Again (IsNode (IsBracketed d)) at (print_body b).0 b
+pub node_again : (d : ℕ) → Inner d → (b : Body) (at : ℕ) → IsFitNode (IsInside d) b → Again (IsNode (IsBracketed d)) at (print_body b).0 b
 node_again d h b at (inl p) = again_as at (print_body b).0 b (λ ts n s. inl s) (literal_again b at p).0
 node_again d h b at (inr (inl p)) = again_as at (print_body b).0 b (λ ts n s. inr (inl s)) (h Brace b at p).0
 node_again d h b at (inr (inr p)) = again_as at (print_body b).0 b (λ ts n s. inr (inr s)) (application_again d h b at p)
@@ -286,7 +286,7 @@ braced_again d h (n ∷ ns) at fit =
 
 -- ---- brackets
 
-inner_again : (d : ℕ) → Inner d
+pub inner_again : (d : ℕ) → Inner d
 inner_again zero k b at p = absurd p
 inner_again (suc d) Brace b at p =
     let is = ap print_body p.1 ∙ print_seq p.0 in
@@ -319,7 +319,7 @@ inner_again (suc d) Paren b at p =
 
 -- ---- texts
 
-no_more : (at : ℕ) → IsLaidOut at [] []
+pub no_more : (at : ℕ) → IsLaidOut at [] []
 no_more at = ([], [], ([], refl, tt), tt, inl refl)
 
 -- a printable node is printed as a text of the grammar, which is read as that node up to places
