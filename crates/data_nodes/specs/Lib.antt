@@ -1,0 +1,15 @@
+-- what the public contracts rest on
+pub mod Nodes
+pub mod Addressed
+pub mod Data
+pub mod Storage
+pub mod Readers
+pub mod Faults
+pub mod Answers
+pub mod Printed
+pub mod Held
+-- what functions inside promise each other
+pub mod Printing
+pub mod Counting
+pub mod LastRead
+pub mod Parts
