@@ -1,0 +1,19 @@
+-- what the public contracts rest on
+pub mod Types
+pub mod Forms
+pub mod Code
+pub mod Entries
+pub mod Script
+pub mod Names
+pub mod TypeFaults
+pub mod CodeFaults
+pub mod ScriptFaults
+pub mod Answers
+pub mod Printed
+pub mod Printable
+-- what functions inside promise each other
+pub mod Printing
+pub mod Makers
+pub mod PlainForms
+pub mod Operands
+pub mod Returned

@@ -1,0 +1,43 @@
+//! Scripts of contracts as texts: read with exact faults, and printed.
+//!
+//! A script is the types of parameter and storage, the names of the entries, and a code. Data at a
+//! type is read and printed too; `data_nodes` does that.
+//!
+//! - `script`: `read_script`. Begin here. `parameter` reads the parameter's type with the names,
+//!   `types` a type, `code` an instruction, and `pushed` the data that one pushes.
+//! - `words`, `type_words`, `code_words`, `plain_forms`, `entries`: what a word is written for, and
+//!   what annotations name.
+//! - `printer`: `print_script`. `nodes`, `type_nodes`, `parameter_nodes` and `code_nodes` build the
+//!   nodes that are printed.
+//! - `fault`: why bytes are no script, and where that is told.
+//!
+//! `specs/Forms.antt` is the table of forms, one line for each: the grammar (`Code.antt`), the
+//! printer and the condition for reading again (`Printable.antt`) all take it. `specs/*Faults.antt`
+//! read from the left, and say which fault is told. Recursion goes as deep as nodes are nested.
+#![tactic(auto)]
+
+mod code;
+mod code_nodes;
+mod code_words;
+mod entries;
+mod fault;
+mod nodes;
+mod parameter;
+mod parameter_nodes;
+mod plain_forms;
+mod printer;
+#[cfg(test)]
+mod printer_tests;
+mod pushed;
+mod script;
+#[cfg(test)]
+mod tests;
+mod type_nodes;
+mod type_words;
+mod types;
+mod words;
+
+pub use data_nodes::{DataFault, DataKind, DataRefusal, print_data, read_data, read_storage};
+pub use fault::ReadFault;
+pub use printer::print_script;
+pub use script::read_script;
