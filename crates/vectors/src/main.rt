@@ -8,10 +8,14 @@
 //! - `words`: the words of a line.
 //! - `values`: bytes of values, their order, and the small checked types.
 //! - `nodes`: Micheline text, read and printed.
+//! - `scripts`: scripts and data, read and printed.
+//! - `faults`: how a fault is answered.
 #![tactic(auto)]
 
 mod answer;
+mod faults;
 mod nodes;
+mod scripts;
 mod values;
 mod words;
 
@@ -20,9 +24,14 @@ use std::alloc::{AllocError, Global};
 use std::io;
 use std::io::{BufRead, BufReader, BufWriter, Write};
 
+fn is_of_scripts(call: &str) -> bool {
+    matches!(call, "script" | "data" | "storage")
+}
+
 fn answer_to(alloc: Global, line: &str) -> Result<Vec<u8>, AllocError> {
     let answer = match line.split_once(' ') {
         Some((call, word)) if call == "nodes" => return nodes::answer(alloc, word),
+        Some((call, words)) if is_of_scripts(call) => return scripts::answer(alloc, call, words),
         Some((call, words)) => values::answer(alloc, call, words)?,
         None => Answer::NoCase,
     };

@@ -2,8 +2,9 @@
 
 ghost use Rattle.std.specs.Prelude.{◌<◌, ◌^◌, length};
 
+use crate::faults;
 use crate::words::bytes_of;
-use micheline_text::{Body, Node, TextFault, print_node, read_nodes};
+use micheline_text::{Body, Node, print_node, read_nodes};
 use std::alloc::{AllocError, Global};
 
 /// The answer to a text that is written as a word, and `no case` where it is none.
@@ -19,17 +20,8 @@ fn of_text(alloc: Global, text: &[u8]) -> Result<Vec<u8>, AllocError>
 {
     match read_nodes(alloc, text) {
         Ok(nodes) => accepted(alloc, nodes.as_slice()),
-        Err(TextFault::BadToken(at)) => refused(alloc, "BadToken", at),
-        Err(TextFault::Unclosed(at)) => refused(alloc, "Unclosed", at),
-        Err(TextFault::WiderNumber(at)) => refused(alloc, "WiderNumber", at),
-        Err(TextFault::TooDeep(at)) => refused(alloc, "TooDeep", at),
-        Err(TextFault::NoMemory) => Err(AllocError),
+        Err(fault) => faults::of_text(alloc, &fault),
     }
-}
-
-fn refused(alloc: Global, fault: &str, at: usize) -> Result<Vec<u8>, AllocError> {
-    let text = format!(in alloc; "{fault} {at}")?;
-    Vec::from_slice(alloc, text.as_bytes())
 }
 
 fn accepted(alloc: Global, nodes: &[Node]) -> Result<Vec<u8>, AllocError> {

@@ -1,0 +1,162 @@
+//! Cases of scripts and data: what is printed or spelt of what is read, or the fault.
+
+ghost use Rattle.std.specs.Prelude.{◌≤◌, ◌<◌, ◌^◌, IsTrue, length};
+ghost use Rattle.std.specs.List.{All};
+ghost use Rattle.value_core.specs.Sound.{is_plain};
+ghost use Rattle.data_nodes.specs.Storage.{big_maps};
+
+use crate::faults;
+use crate::words::bytes_of;
+use data_nodes::{
+    DataRefusal, has_few_big_maps, is_within_depth, print_data, read_data, read_storage,
+};
+use micheline_text::{Node, TextFault, read_nodes};
+use michelson_reader::{ReadFault, print_script, read_script};
+use std::alloc::{AllocError, Global};
+use value_codec::write_val;
+use value_core::{Ty, Val};
+
+/// The depth to which values are written as bytes.
+const DEEPEST: u32 = 128;
+
+/// The answer to a case of this table, and `no case` to any other line.
+pub fn answer(alloc: Global, call: &str, words: &str) -> Result<Vec<u8>, AllocError> {
+    if call == "script" {
+        return match bytes_of(alloc, words)? {
+            Some(text) if text.len() < 0x1_0000_0000 => script(alloc, &text),
+            _ => no_case(alloc),
+        };
+    }
+    let Some((t, data)) = words.split_once(' ') else {
+        return no_case(alloc);
+    };
+    let Some(t) = type_of(alloc, t)? else {
+        return no_case(alloc);
+    };
+    match bytes_of(alloc, data)? {
+        Some(text) if text.len() < 0x1_0000_0000 => of_type(alloc, call, &t, &text),
+        _ => no_case(alloc),
+    }
+}
+
+fn no_case(alloc: Global) -> Result<Vec<u8>, AllocError> {
+    Vec::from_slice(alloc, b"no case")
+}
+
+fn ok(alloc: Global, text: &[u8]) -> Result<Vec<u8>, AllocError> {
+    let mut out = Vec::from_slice(alloc, b"ok ")?;
+    put_hex(alloc, text, &mut out)?;
+    Ok(out)
+}
+
+fn put_hex(alloc: Global, bytes: &[u8], out: &mut Vec<u8>) -> Result<(), AllocError> {
+    let digits = hex::encode(alloc, bytes)?;
+    out.extend_from_slice(digits.as_bytes())
+}
+
+fn script(alloc: Global, text: &[u8]) -> Result<Vec<u8>, AllocError>
+    requires { length text.now < 2 ^ 32 }
+{
+    match read_script(alloc, text) {
+        Ok(script) => ok(alloc, &print_script(alloc, &script)?),
+        Err(fault) => faults::of_script(alloc, &fault),
+    }
+}
+
+/// The type that a word writes: it is read as the parameter of a script.
+fn type_of(alloc: Global, word: &str) -> Result<Option<Ty>, AllocError> {
+    let Some(t) = bytes_of(alloc, word)? else {
+        return Ok(None);
+    };
+    let mut text = Vec::from_slice(alloc, b"parameter (")?;
+    text.extend_from_slice(&t)?;
+    text.extend_from_slice(b") ; storage unit ; code {}")?;
+    if text.len() >= 0x1_0000_0000 {
+        return Ok(None);
+    }
+    match read_script(alloc, &text) {
+        Ok(script) => Ok(Some(script.param)),
+        Err(ReadFault::NoMemory) => Err(AllocError),
+        Err(_) => Ok(None),
+    }
+}
+
+fn of_type(alloc: Global, call: &str, t: &Ty, text: &[u8]) -> Result<Vec<u8>, AllocError>
+    requires { length text.now < 2 ^ 32 }
+{
+    match read_nodes(alloc, text) {
+        Ok(nodes) => match nodes.as_slice() {
+            [node] => of_node(alloc, call, t, node),
+            _ => no_case(alloc),
+        },
+        Err(TextFault::NoMemory) => Err(AllocError),
+        Err(_) => no_case(alloc),
+    }
+}
+
+fn of_node(alloc: Global, call: &str, t: &Ty, node: &Node) -> Result<Vec<u8>, AllocError> {
+    match call {
+        "data" => data(alloc, t, node),
+        "storage" if has_few_big_maps(t) => storage(alloc, t, node),
+        _ => no_case(alloc),
+    }
+}
+
+fn refused(alloc: Global, refusal: DataRefusal) -> Result<Vec<u8>, AllocError> {
+    match refusal {
+        DataRefusal::Fault(fault) => faults::of_data(alloc, fault),
+        DataRefusal::NoMemory => Err(AllocError),
+    }
+}
+
+fn data(alloc: Global, t: &Ty, node: &Node) -> Result<Vec<u8>, AllocError> {
+    match read_data(alloc, t, node) {
+        Ok(v) => ok(alloc, &print_data(alloc, &v)?),
+        Err(refusal) => refused(alloc, refusal),
+    }
+}
+
+#[tactic(auto, using(crate::proofs::Everywhere::at_each))]
+fn storage(alloc: Global, t: &Ty, node: &Node) -> Result<Vec<u8>, AllocError>
+    requires { big_maps t.now ≤ 16 }
+{
+    let (v, entries) = match read_storage(alloc, t, node) {
+        Ok(read) => read,
+        Err(refusal) => return refused(alloc, refusal),
+    };
+    let mut out = Vec::from_slice(alloc, b"ok ")?;
+    put_value(alloc, &v, &mut out)?;
+    put_entries(alloc, entries.as_slice(), &mut out)?;
+    Ok(out)
+}
+
+/// The entries of big maps, each with the place of its map.
+fn put_entries(
+    alloc: Global,
+    entries: &[(u8, Val, Val)],
+    out: &mut Vec<u8>,
+) -> Result<(), AllocError>
+    requires { All (λ e. IsTrue (is_plain e.1) × IsTrue (is_plain e.2)) entries.now }
+{
+    for entry in entries {
+        let place = entry.0;
+        let text = format!(in alloc; " {place}:")?;
+        out.extend_from_slice(text.as_bytes())?;
+        put_value(alloc, &entry.1, out)?;
+        out.extend_from_slice(b":")?;
+        put_value(alloc, &entry.2, out)?;
+    }
+    Ok(())
+}
+
+/// The spelling of a value, and `-` where it is too deep for one.
+fn put_value(alloc: Global, v: &Val, out: &mut Vec<u8>) -> Result<(), AllocError>
+    requires { IsTrue (is_plain v.now) }
+{
+    if !is_within_depth(v, DEEPEST) {
+        return out.extend_from_slice(b"-");
+    }
+    let mut bytes = Vec::new(alloc);
+    write_val(alloc, v, &mut bytes)?;
+    put_hex(alloc, &bytes, out)
+}
