@@ -1,6 +1,7 @@
 -- What a call returned, beside what a definition says.
 use Rattle.std.specs.Prelude.{◌≡◌, ℕ, List, length, Result, Ok, Err}
 use Rattle.micheline_text.specs.declared.node.Node.{Node}
+use Rattle.micheline_text.specs.declared.fault.TextFault.TheVariants as text
 use Rattle.micheline_text.specs.Faults.{IsFault}
 use Rattle.micheline_text.specs.Lexing.{tokens_of}
 use Rattle.micheline_text.specs.Text.{IsTextOf}
@@ -13,8 +14,9 @@ abbrev pub Gives : {A : Type 0} → A → Result A ReadFault → Type 0
 Gives x (Ok y) = y ≡ x
 Gives x (Err e) = e ≡ fault.NoMemory
 
--- a fault of the text itself, or else the first one of its nodes
+-- a fault of the text itself, which is never want of memory, or else the first one of its nodes
 abbrev pub IsReadFault : List ℕ → ReadFault → Type 0
 IsReadFault bytes fault.NoMemory = Unit {0}
+IsReadFault bytes (fault.Text text.NoMemory) = ⊥
 IsReadFault bytes (fault.Text f) = IsFault (tokens_of 0 bytes) f
 IsReadFault bytes f = (ns : List Node) × IsTextOf bytes ns × (script_read (length bytes) ns ≡ Err f)
