@@ -1,8 +1,8 @@
 -- Lawful lists, sets and maps, by what they hold; and bytes.
-use Rattle.std.proofs.Common.{◌≡◌, ℕ, suc, ◌<◌, Bool, true, false, List, [], ◌∷◌, get_or, refl, ap, sym, ◌∙◌}
-use Rattle.std.specs.Prelude.{◌&&◌}
+use Rattle.std.proofs.Common.{◌≡◌, ℕ, zero, suc, ◌<◌, Bool, true, false, List, [], ◌∷◌, get_or, refl, ap, sym, ◌∙◌, arith}
 use Rattle.std.specs.List.{list_all}
-use Rattle.std.proofs.lemmas.Bool.{lt-ltb}
+use Rattle.std.specs.Prelude.{◌&&◌, nat_lt}
+use Rattle.std.proofs.lemmas.Bool.{and_parts, lt-ltb, ltb-true}
 use Rattle.value_core.specs.declared.val.Val.{Val}
 use Rattle.value_core.specs.declared.val.Val.TheVariants as variant
 use Rattle.value_core.specs.declared.val.Val.TheVariants.{rolls-List, rolls-Set, rolls-Map}
@@ -36,3 +36,9 @@ pub ruleset lawful_lists = (lawful-list, lawful-set, lawful-map)
 pub all_small : (bytes : List ℕ) → ((i : ℕ) → get_or bytes i 0 < 256) → are_bytes bytes ≡ true
 all_small [] small = refl
 all_small (b ∷ bytes) small = rw (lt-ltb b 256 (small 0)) (all_small bytes (λ i. small (suc i)))
+
+-- and bytes are below 256
+pub small_all : (bytes : List ℕ) → are_bytes bytes ≡ true → (i : ℕ) → get_or bytes i 0 < 256
+small_all [] all i = omega arith
+small_all (b ∷ bytes) all zero = ltb-true b 256 (and_parts (nat_lt b 256) _ all).0
+small_all (b ∷ bytes) all (suc i) = small_all bytes (and_parts (nat_lt b 256) _ all).1 i
