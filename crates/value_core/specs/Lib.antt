@@ -10,6 +10,12 @@ pub mod Sound
 pub mod Kinds
 pub mod Typed
 pub mod Depth
+pub mod Nodes
+pub mod BigMaps
 -- what functions inside promise each other
 pub mod Padding
 pub mod SoundParts
+pub mod Settled
+pub mod Counting
+-- laws that proofs cite, here and in other crates
+pub mod TypeLevels

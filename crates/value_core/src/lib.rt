@@ -13,6 +13,10 @@
 //! - `sizing`: how large a value is.
 //! - `soundness`: ranges, counts, and the order of items and keys.
 //! - `lawfulness`: each leaf of a value that the program holds keeps its rule, whatever the value.
+//! - `plainness`: which values may be written and kept.
+//! - `depth`, `limits`: whether values and types are too deep or too large, without a look at more
+//!   than there may be.
+//! - `big_maps`: the big maps of a type, and whether those of a value stand at their own places.
 //! - `kinds`, `typing`: what a type may be used for, and which values have it.
 //!
 //! A definition over all values is said once for one level of a value, in `specs/Layer.antt`:
@@ -22,13 +26,17 @@
 #![tactic(auto)]
 
 mod address;
+mod big_maps;
 mod copying;
+mod depth;
 mod kinds;
 mod lawfulness;
+mod limits;
 mod memory;
 mod name;
 mod num;
 mod ordering;
+mod plainness;
 mod sameness;
 mod sizing;
 mod soundness;
@@ -40,12 +48,16 @@ mod typing;
 mod val;
 
 pub use address::{Address, AddressFault};
+pub use big_maps::{count_big_maps, has_no_big_map, is_placed};
+pub use depth::{is_within_depth, type_is_within_depth};
 pub use kinds::{is_comparable, is_passable};
 pub use lawfulness::leaves_are_lawful;
+pub use limits::{is_within_size, type_is_within_nodes};
 pub use memory::NoMemory;
 pub use name::Name;
 pub use num::Num;
 pub use ordering::{compare, order_is_total};
+pub use plainness::is_plain;
 pub use sizing::size;
 pub use soundness::is_sound;
 pub use text::{Blob, Text};
