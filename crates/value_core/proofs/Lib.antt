@@ -1,3 +1,4 @@
+pub mod Combs
 pub mod Everywhere
 pub mod Levels
 pub mod OrderLemmas

@@ -12,3 +12,4 @@ pub mod Depth
 -- what functions inside promise each other
 pub mod Padding
 pub mod SoundParts
+pub mod Alike

@@ -16,8 +16,8 @@
 //!
 //! A definition over all values is said once for one level of a value, in `specs/Layer.antt`:
 //! its tag, what stands in it, and its parts. Every public call equals its definition in
-//! `specs/`. Only copies and the makers of values take memory. Recursion goes as deep as the
-//! value, and never as far as a list is long.
+//! `specs/`. Only copies and the makers of values take memory. Recursion goes as deep as brackets
+//! do where a value or a type is written flat: a loop follows last parts, and none follows a list.
 #![tactic(auto)]
 
 mod address;
