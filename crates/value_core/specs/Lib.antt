@@ -6,6 +6,7 @@ pub mod Size
 pub mod Order
 pub mod Everywhere
 pub mod Sound
+pub mod Sorted
 pub mod Kinds
 pub mod Typed
 pub mod Depth
