@@ -12,4 +12,5 @@ pub mod Typed
 pub mod Depth
 -- what functions inside promise each other
 pub mod Padding
+pub mod BytesOrder
 pub mod SoundParts
