@@ -7,3 +7,6 @@ pub mod Sizes
 pub mod SoundLemmas
 pub mod TotalOrder
 pub mod TypedLemmas
+pub mod SortedEntries
+pub mod SortedKeys
+pub mod SortedValues

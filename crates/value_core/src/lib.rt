@@ -29,6 +29,7 @@ mod num;
 mod ordering;
 mod sameness;
 mod sizing;
+mod sorted_laws;
 mod soundness;
 #[cfg(test)]
 mod tests;
@@ -44,6 +45,10 @@ pub use name::Name;
 pub use num::Num;
 pub use ordering::{compare, order_is_total};
 pub use sizing::size;
+pub use sorted_laws::{
+    a_map_has_what_is_put, a_map_lacks_what_is_removed, a_set_has_what_is_inserted,
+    a_set_lacks_what_is_removed, ascending_lists_are_sets_and_maps,
+};
 pub use soundness::is_sound;
 pub use text::{Blob, Text};
 pub use ty::Ty;
