@@ -3,7 +3,7 @@ use Rattle.std.proofs.Common.{◌≡◌, ℕ, ℤ, zero, suc, pos, ◌^◌, ◌<
 use Rattle.std.specs.Prelude.{IsTrue, int_le, nat_lt}
 use Rattle.std.specs.List.{flat_map, AllByRecursion}
 use Rattle.std.specs.Int.{w8, w64, to_be_bytes}
-use Rattle.std.proofs.lemmas.Bool.{eqb-true}
+use Rattle.std.proofs.lemmas.Bool.{eqb-true, lt-ltb, ltb-true}
 use Rattle.byte_fields.specs.Readers.{Reader, given, made}
 use Rattle.byte_fields.specs.Laws.{IsWithin, Reads}
 use Rattle.byte_fields.proofs.Joined.{given_reads, made_within, both_reads, reads_as}
@@ -13,13 +13,14 @@ use Rattle.value_core.specs.declared.val.Val.TheVariants as variant
 use Rattle.value_core.specs.declared.val.Val.TheOpen as one
 use Rattle.value_core.specs.declared.val.Val.TheViews.{out-Val, roll-Val}
 use Rattle.value_core.specs.Layer.{Layer, flat, parts_of}
-use Rattle.value_core.specs.Leaves.{is_text, is_blob, is_address}
+use Rattle.value_core.specs.Lawful.{is_lawful_address, is_lawful_blob, is_lawful_level, is_number}
+use Rattle.value_core.specs.Leaves.{is_text}
 use Rattle.value_core.specs.Sound.{ascends, is_countable, is_sound_level, is_settled_level}
 use Rattle.value_core.proofs.Levels.{roll-out}
-use Rattle.value_codec.specs.Spelling.{word, signed_word, spell, spell_entry, is_number, IsSpelt}
+use Rattle.value_codec.specs.Spelling.{word, signed_word, spell, spell_entry, IsSpelt}
 use Rattle.value_codec.specs.Reading.{is_tag, behind, value}
 use Rattle.value_codec.proofs.Spelt.{spell_unit, spell_bool, spell_int, spell_nat, spell_mutez, spell_time, spell_text, spell_bytes, spell_addr, spell_nothing, spell_some, spell_left, spell_right, spell_pair, spell_list, spell_set, spell_map, spell_big_map}
-use Rattle.value_codec.proofs.Levels.{GoodLevel, leaf_rule, IsGood, good_at, is_good, is_spelt, both_true, first_true, second_true}
+use Rattle.value_codec.proofs.Levels.{GoodLevel, IsGood, good_at, is_good, is_spelt, both_true, first_true, second_true}
 use Rattle.value_codec.proofs.Rows.{num_reads, nat_reads, mutez_reads, text_reads, blob_reads, address_reads, place_reads, list_reads, set_reads, map_reads}
 
 -- ---- the values of each row
@@ -27,7 +28,7 @@ use Rattle.value_codec.proofs.Rows.{num_reads, nat_reads, mutez_reads, text_read
 abbrev SpeltRow : {A : Type 0} → ℕ → ℕ → (A → Val) → (A → List ℕ) → (A → Type 0) → Type 0
 SpeltRow d tag f text_of Good = Row tag f text_of Good spell (IsGood (suc d))
 
-plain_level : (x : Layer Val) → IsTrue (is_sound_level x) → IsTrue (is_settled_level x) → IsTrue (leaf_rule x) → GoodLevel x
+plain_level : (x : Layer Val) → IsTrue (is_sound_level x) → IsTrue (is_settled_level x) → IsTrue (is_lawful_level x) → GoodLevel x
 plain_level x sound settled leaf = record { sound = sound; settled = settled; leaf = leaf }
 
 good_unit : (d : ℕ) → IsGood (suc d) variant.Unit
@@ -46,7 +47,7 @@ row_nat : (d : ℕ) → SpeltRow {A = ℤ} d 4 variant.Nat signed_word (λ n. Is
 row_nat d = record { spelt = spell_nat; good = λ x good. good_at d (one.Nat x) _ (variant.rolls-Nat x) (record { sound = good.1; settled = refl; leaf = good.0 }) tt }
 
 row_mutez : (d : ℕ) → SpeltRow {A = ℕ} d 5 variant.Mutez (to_be_bytes w64) (λ n. IsTrue (nat_lt n (2 ^ 63)))
-row_mutez d = record { spelt = spell_mutez; good = λ x good. good_at d (one.Mutez x) _ (variant.rolls-Mutez x) (record { sound = good; settled = refl; leaf = refl }) tt }
+row_mutez d = record { spelt = spell_mutez; good = λ x good. good_at d (one.Mutez x) _ (variant.rolls-Mutez x) (record { sound = good; settled = refl; leaf = lt-ltb x (2 ^ 64) (omega (arith, ltb-true x (2 ^ 63) good)) }) tt }
 
 row_time : (d : ℕ) → SpeltRow {A = ℤ} d 6 variant.Time signed_word (λ n. IsTrue (is_number n))
 row_time d = record { spelt = spell_time; good = λ x good. good_at d (one.Time x) _ (variant.rolls-Time x) (record { sound = refl; settled = refl; leaf = good }) tt }
@@ -54,10 +55,10 @@ row_time d = record { spelt = spell_time; good = λ x good. good_at d (one.Time 
 row_text : (d : ℕ) → SpeltRow {A = List ℕ} d 7 variant.Text (λ bytes. word (length bytes) ++ bytes) (λ bytes. IsTrue (is_text bytes))
 row_text d = record { spelt = spell_text; good = λ x good. good_at d (one.Text x) _ (variant.rolls-Text x) (record { sound = refl; settled = refl; leaf = good }) tt }
 
-row_bytes : (d : ℕ) → SpeltRow {A = List ℕ} d 8 variant.Bytes (λ bytes. word (length bytes) ++ bytes) (λ bytes. IsTrue (is_blob bytes))
+row_bytes : (d : ℕ) → SpeltRow {A = List ℕ} d 8 variant.Bytes (λ bytes. word (length bytes) ++ bytes) (λ bytes. IsTrue (is_lawful_blob bytes))
 row_bytes d = record { spelt = spell_bytes; good = λ x good. good_at d (one.Bytes x) _ (variant.rolls-Bytes x) (record { sound = refl; settled = refl; leaf = good }) tt }
 
-row_addr : (d : ℕ) → SpeltRow {A = List ℕ} d 9 variant.Addr (λ bytes. bytes) (λ bytes. IsTrue (is_address bytes))
+row_addr : (d : ℕ) → SpeltRow {A = List ℕ} d 9 variant.Addr (λ bytes. bytes) (λ bytes. IsTrue (is_lawful_address bytes))
 row_addr d = record { spelt = spell_addr; good = λ x good. good_at d (one.Addr x) _ (variant.rolls-Addr x) (record { sound = refl; settled = refl; leaf = good }) tt }
 
 row_some : (d : ℕ) → SpeltRow {A = Val} d 11 variant.Some spell (IsGood d)
@@ -90,7 +91,7 @@ row_map : (d : ℕ) → SpeltRow {A = List (Val × Val)} d 17 variant.Map (λ es
 row_map d = record { spelt = spell_map; good = λ x good. good_at d (one.Map x) _ (variant.rolls-Map x) (record { sound = both_true (is_countable x) _ good.0 good.1.1; settled = refl; leaf = refl }) (flat_good d x good.1.0) }
 
 row_big_map : (d : ℕ) → SpeltRow {A = ℕ} d 18 (λ n. variant.BigMap n 0) (to_be_bytes w8) (λ n. IsTrue (nat_lt n 16))
-row_big_map d = record { spelt = λ n. spell_big_map n 0; good = λ n good. good_at d (one.BigMap n 0) _ (variant.rolls-BigMap n 0) (record { sound = good; settled = refl; leaf = refl }) tt }
+row_big_map d = record { spelt = λ n. spell_big_map n 0; good = λ n good. good_at d (one.BigMap n 0) _ (variant.rolls-BigMap n 0) (record { sound = good; settled = refl; leaf = both_true (nat_lt n 256) _ (lt-ltb n 256 (omega (arith, ltb-true n 16 good))) refl }) tt }
 
 -- ---- a value
 

@@ -8,16 +8,18 @@ use Rattle.std.proofs.lemmas.Int.{ints}
 use Rattle.byte_fields.specs.Readers.{Reader, both, with, checked, many, number}
 use Rattle.byte_fields.specs.Laws.{Reads}
 use Rattle.byte_fields.proofs.Digits.{wide8, wide32, wide64, wide128}
-use Rattle.byte_fields.proofs.Numbers.{run_reads, number_reads, signed_reads}
+use Rattle.byte_fields.proofs.Numbers.{IsRun, byte_run_reads, run_reads, number_reads, signed_reads}
 use Rattle.byte_fields.proofs.Joined.{reads_as, checked_reads, both_reads, with_reads}
 use Rattle.byte_fields.proofs.Lists.{chained_reads, many_reads}
 use Rattle.value_core.specs.declared.val.Val.{Val}
+use Rattle.value_core.specs.Lawful.{is_lawful_address, is_lawful_blob, is_number}
 use Rattle.value_core.specs.Leaves.{IsNumber, is_text, is_blob, is_address}
 use Rattle.value_core.specs.Sound.{ascends, is_countable}
-use Rattle.value_codec.specs.Spelling.{word, signed_word, spell, spell_entry, is_number}
+use Rattle.value_core.proofs.LawfulLemmas.{all_small, small_all}
+use Rattle.value_codec.specs.Spelling.{word, signed_word, spell, spell_entry}
 use Rattle.value_codec.specs.Reading.{num, nat, mutez, measured, address, place, is_above, ascending, entries, value}
 use Rattle.value_codec.proofs.Numbers.{number_fits}
-use Rattle.value_codec.proofs.Levels.{IsGood, first_true, second_true}
+use Rattle.value_codec.proofs.Levels.{IsGood, both_true, first_true, second_true}
 use Rattle.value_codec.proofs.Ascending.{GoodNext, next_key, from_along, to_along}
 
 -- ---- numbers
@@ -59,12 +61,24 @@ measured_reads test short =
 pub text_reads : Reads (measured is_text) (λ bytes. word (length bytes) ++ bytes) (λ bytes. IsTrue (is_text bytes))
 text_reads = measured_reads is_text (λ bytes is. first_true (is_blob bytes) _ is)
 
-pub blob_reads : Reads (measured is_blob) (λ bytes. word (length bytes) ++ bytes) (λ bytes. IsTrue (is_blob bytes))
-blob_reads = measured_reads is_blob (λ bytes is. is)
+pub blob_reads : Reads (measured is_blob) (λ bytes. word (length bytes) ++ bytes) (λ bytes. IsTrue (is_lawful_blob bytes))
+blob_reads =
+    reads_as (λ bytes. word (length bytes) ++ bytes) (λ bytes. IsTrue (is_lawful_blob bytes))
+    (λ bytes good. (refl, both_true (is_blob bytes) _ good.1.1 (all_small bytes good.1.0.fits)))
+    (λ bytes is.
+    let short = first_true (is_blob bytes) _ is in
+    let run : IsRun (length bytes) bytes = record { len = refl; fits = small_all bytes (second_true (is_blob bytes) _ is) } in
+    ((omega (arith, leb-true (length bytes) 131071 short), short), (run, short)))
+    (with_reads (checked_reads (λ n. nat_le n 131071) (number_reads w32 (2 ^ 32) wide32)) (λ n. checked_reads is_blob (byte_run_reads n)) length (λ n bytes good. good.0.len))
 
-pub address_reads : Reads address (λ bytes. bytes) (λ bytes. IsTrue (is_address bytes))
-address_reads = reads_as (λ bytes. bytes) (λ bytes. IsTrue (is_address bytes)) (λ bytes good. (refl, good.1))
-    (λ bytes is. (eqb-true (length bytes) 22 (first_true (length bytes == 22) _ is), is)) (checked_reads is_address (run_reads 22))
+pub address_reads : Reads address (λ bytes. bytes) (λ bytes. IsTrue (is_lawful_address bytes))
+address_reads = reads_as (λ bytes. bytes) (λ bytes. IsTrue (is_lawful_address bytes))
+    (λ bytes good. (refl, both_true (is_address bytes) _ good.1 (all_small bytes good.0.fits)))
+    (λ bytes is.
+    let one = first_true (is_address bytes) _ is in
+    let run : IsRun 22 bytes = record { len = eqb-true (length bytes) 22 (first_true (length bytes == 22) _ one); fits = small_all bytes (second_true (is_address bytes) _ is) } in
+    (run, one))
+    (checked_reads is_address (byte_run_reads 22))
 
 -- ---- lists, sets and maps
 

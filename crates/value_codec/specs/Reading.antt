@@ -5,9 +5,9 @@ use Rattle.std.specs.Ordering.{is_lt}
 use Rattle.byte_fields.specs.Readers.{Reader, given, made, both, with, checked, chained, many, run, number, signed, tagged}
 use Rattle.value_core.specs.declared.val.Val.{Val}
 use Rattle.value_core.specs.declared.val.Val.TheVariants as variant
+use Rattle.value_core.specs.Lawful.{is_number}
 use Rattle.value_core.specs.Leaves.{is_text, is_blob, is_address}
 use Rattle.value_core.specs.Order.{order}
-use Rattle.value_codec.specs.Spelling.{is_number}
 
 -- a number in sixteen bytes
 abbrev pub num : Reader ℤ

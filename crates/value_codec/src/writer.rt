@@ -2,15 +2,14 @@
 
 ghost use Rattle.std.specs.Prelude.{◌≡◌, ◌≤◌, ◌++◌, ◌∷◌, [], OnOk, OnErr, IsTrue};
 ghost use Rattle.std.specs.Int.{w8, w64, to_be_bytes};
-ghost use Rattle.std.specs.List.{flat_map, list_all};
-ghost use Rattle.value_core.specs.Leaves.{is_address};
+ghost use Rattle.std.specs.List.{flat_map};
 ghost use Rattle.value_core.specs.Sound.{is_plain};
 ghost use Rattle.value_core.specs.Depth.{depth_of};
-ghost use Rattle.value_codec.specs.Spelling.{word, measured_text, signed_word, spell, spell_entry, is_number, has_leaves, has_entry_leaves, IsSpelt};
+ghost use Rattle.value_codec.specs.Spelling.{word, measured_text, signed_word, spell, spell_entry, IsSpelt};
 
 use byte_fields::Draft;
 use std::alloc::Global;
-use value_core::{Address, NoMemory, Num, Val};
+use value_core::{Address, NoMemory, Num, Val, leaves_are_lawful};
 
 /// Appends the spelling of the value.
 pub fn write_val(alloc: Global, v: &Val, out: &mut Vec<u8>) -> Result<(), NoMemory>
@@ -21,6 +20,7 @@ pub fn write_val(alloc: Global, v: &Val, out: &mut Vec<u8>) -> Result<(), NoMemo
     ensures spelt { OnOk result (IsSpelt 128 v.now) }
     ensures unchanged { OnErr result (out.new.items ≡ out.old.items) }
 {
+    leaves_are_lawful(v);
     let mut draft = Draft::on(alloc, out);
     let done = put_val(v, &mut draft);
     draft.close(done, out)
@@ -31,7 +31,6 @@ pub fn write_val(alloc: Global, v: &Val, out: &mut Vec<u8>) -> Result<(), NoMemo
 #[tactic(auto, using(crate::proofs::Spelt::spellings))]
 pub fn put_val(v: &Val, draft: &mut Draft) -> Result<(), NoMemory>
     ensures added { OnOk result (draft.new.added ≡ draft.old.added ++ spell v.now) }
-    ensures leaves { OnOk result (IsTrue (has_leaves v.now)) }
     ensures before { draft.new.before ≡ draft.old.before }
 {
     match v {
@@ -82,7 +81,6 @@ pub fn put_val(v: &Val, draft: &mut Draft) -> Result<(), NoMemory>
 #[cycle(writing)]
 fn put_items(items: &[Val], draft: &mut Draft) -> Result<(), NoMemory>
     ensures added { OnOk result (draft.new.added ≡ draft.old.added ++ flat_map spell items.now) }
-    ensures leaves { OnOk result (IsTrue (list_all has_leaves items.now)) }
     ensures before { draft.new.before ≡ draft.old.before }
 {
     for item in items {
@@ -94,7 +92,6 @@ fn put_items(items: &[Val], draft: &mut Draft) -> Result<(), NoMemory>
 #[cycle(writing)]
 fn put_entries(entries: &[(Val, Val)], draft: &mut Draft) -> Result<(), NoMemory>
     ensures added { OnOk result (draft.new.added ≡ draft.old.added ++ flat_map spell_entry entries.now) }
-    ensures leaves { OnOk result (IsTrue (list_all has_entry_leaves entries.now)) }
     ensures before { draft.new.before ≡ draft.old.before }
 {
     for entry in entries {
@@ -106,7 +103,6 @@ fn put_entries(entries: &[(Val, Val)], draft: &mut Draft) -> Result<(), NoMemory
 
 fn put_num(tag: u8, n: Num, draft: &mut Draft) -> Result<(), NoMemory>
     ensures added { OnOk result (draft.new.added ≡ draft.old.added ++ tag ∷ signed_word n) }
-    ensures number { IsTrue (is_number n) }
     ensures before { draft.new.before ≡ draft.old.before }
 {
     let number = n.get();
@@ -132,7 +128,6 @@ fn put_run(tag: u8, bytes: &[u8], draft: &mut Draft) -> Result<(), NoMemory>
 
 fn put_address(address: &Address, draft: &mut Draft) -> Result<(), NoMemory>
     ensures added { OnOk result (draft.new.added ≡ draft.old.added ++ 9 ∷ address.now) }
-    ensures address { IsTrue (is_address address.now) }
     ensures before { draft.new.before ≡ draft.old.before }
 {
     let bytes = address.bytes();

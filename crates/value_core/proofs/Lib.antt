@@ -1,4 +1,5 @@
 pub mod Everywhere
+pub mod LawfulLemmas
 pub mod Levels
 pub mod OrderLemmas
 pub mod Padded

@@ -5,6 +5,7 @@ pub mod Layer
 pub mod Size
 pub mod Order
 pub mod Everywhere
+pub mod Lawful
 pub mod Sound
 pub mod Sorted
 pub mod Kinds

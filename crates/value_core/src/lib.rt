@@ -12,6 +12,7 @@
 //!   a total order, in which equal values alone tie.
 //! - `sizing`: how large a value is.
 //! - `soundness`: ranges, counts, and the order of items and keys.
+//! - `lawfulness`: each leaf of a value that the program holds keeps its rule, whatever the value.
 //! - `kinds`, `typing`: what a type may be used for, and which values have it.
 //!
 //! A definition over all values is said once for one level of a value, in `specs/Layer.antt`:
@@ -23,6 +24,7 @@
 mod address;
 mod copying;
 mod kinds;
+mod lawfulness;
 mod memory;
 mod name;
 mod num;
@@ -40,6 +42,7 @@ mod val;
 
 pub use address::{Address, AddressFault};
 pub use kinds::{is_comparable, is_passable};
+pub use lawfulness::leaves_are_lawful;
 pub use memory::NoMemory;
 pub use name::Name;
 pub use num::Num;
