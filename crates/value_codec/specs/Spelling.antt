@@ -1,10 +1,11 @@
 -- The bytes of values: which they are, and which values have any.
-use Rattle.std.specs.Prelude.{ℕ, ℤ, pos, negsuc, ◌≤◌, ◌-◌, ◌^◌, List, [], ◌∷◌, ◌++◌, Bool, true, ◌&&◌, if◌then◌else◌, IsTrue, int_le, length}
+use Rattle.std.specs.Prelude.{ℕ, ℤ, pos, negsuc, ◌≤◌, ◌-◌, ◌^◌, List, [], ◌∷◌, ◌++◌, Bool, true, ◌&&◌, if◌then◌else◌, IsTrue, int_le, nat_le, length}
 use Rattle.std.specs.List.{flat_map, list_all}
 use Rattle.std.specs.Int.{w8, w32, w64, w128, to_be_bytes, cast_unsigned}
 use Rattle.value_core.specs.declared.val.Val.{Val}
 use Rattle.value_core.specs.declared.val.Val.TheOpen as one
-use Rattle.value_core.specs.Layer.{Layer, by_level, parts_of}
+use Rattle.value_core.specs.Layer.{Layer, by_level, parts_of, tag_of}
+use Rattle.value_core.specs.Everywhere.{everywhere}
 use Rattle.value_core.specs.Leaves.{is_text, is_blob, is_address}
 use Rattle.value_core.specs.Sound.{is_plain}
 use Rattle.value_core.specs.Depth.{depth_of}
@@ -79,8 +80,13 @@ has_leaves = by_level leaf_level
 abbrev pub has_entry_leaves : Val × Val → Bool
 has_entry_leaves e = has_leaves e.0 && has_leaves e.1
 
--- a plain value, at most so deep, has a spelling
-pub record IsSpelt (most : ℕ) (v : Val) : Type 0 where
+-- no level of it has a greater tag
+abbrev pub has_tags : ℕ → Val → Bool
+has_tags most = everywhere (λ x. nat_le (tag_of x) most)
+
+-- a plain value with no tag above most, and at most so deep, has a spelling
+pub record IsSpelt (most depth : ℕ) (v : Val) : Type 0 where
   pub leaves : IsTrue (has_leaves v)
   pub plain : IsTrue (is_plain v)
-  pub deep : depth_of v ≤ most
+  pub tags : IsTrue (has_tags most v)
+  pub deep : depth_of v ≤ depth
