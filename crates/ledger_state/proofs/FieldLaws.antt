@@ -50,7 +50,7 @@ amount_of-Mutez : (n : ℕ) → amount_of (variant.Mutez n) ≡ n
 amount_of-Mutez n = ap amount_of (sym (variant.rolls-Mutez n)) ∙ ap amount_level (out-roll (one.Mutez n))
 
 mutez_good : (d n : ℕ) → n < 2 ^ 63 → IsGood (suc d) (variant.Mutez n)
-mutez_good d n small = good_at d (one.Mutez n) _ (variant.rolls-Mutez n) (record { sound = lt-ltb n (2 ^ 63) small; settled = refl; leaf = refl }) tt
+mutez_good d n small = good_at d (one.Mutez n) _ (variant.rolls-Mutez n) (record { sound = lt-ltb n (2 ^ 63) small; settled = refl; leaf = lt-ltb n (2 ^ 64) (omega arith) }) tt
 
 -- an amount above 0 with which the supply stays below 2^63
 abbrev pub IsRoom : ℕ → ℕ → Type 0

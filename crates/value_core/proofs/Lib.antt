@@ -1,5 +1,6 @@
 pub mod Combs
 pub mod Everywhere
+pub mod LawfulLemmas
 pub mod Levels
 pub mod OrderLemmas
 pub mod Padded
@@ -8,3 +9,6 @@ pub mod Sizes
 pub mod SoundLemmas
 pub mod TotalOrder
 pub mod TypedLemmas
+pub mod SortedEntries
+pub mod SortedKeys
+pub mod SortedValues

@@ -12,6 +12,7 @@
 //!   a total order, in which equal values alone tie.
 //! - `sizing`: how large a value is.
 //! - `soundness`: ranges, counts, and the order of items and keys.
+//! - `lawfulness`: each leaf of a value that the program holds keeps its rule, whatever the value.
 //! - `kinds`, `typing`: what a type may be used for, and which values have it.
 //!
 //! A definition over all values is said once for one level of a value, in `specs/Layer.antt`:
@@ -23,12 +24,14 @@
 mod address;
 mod copying;
 mod kinds;
+mod lawfulness;
 mod memory;
 mod name;
 mod num;
 mod ordering;
 mod sameness;
 mod sizing;
+mod sorted_laws;
 mod soundness;
 #[cfg(test)]
 mod tests;
@@ -39,11 +42,16 @@ mod val;
 
 pub use address::{Address, AddressFault};
 pub use kinds::{is_comparable, is_passable};
+pub use lawfulness::leaves_are_lawful;
 pub use memory::NoMemory;
 pub use name::Name;
 pub use num::Num;
 pub use ordering::{compare, order_is_total};
 pub use sizing::size;
+pub use sorted_laws::{
+    a_map_has_what_is_put, a_map_lacks_what_is_removed, a_set_has_what_is_inserted,
+    a_set_lacks_what_is_removed, ascending_lists_are_sets_and_maps,
+};
 pub use soundness::is_sound;
 pub use text::{Blob, Text};
 pub use ty::Ty;

@@ -106,7 +106,7 @@ fn compare_alike(a: &Val, b: &Val) -> Ordering
 fn compare_addresses(a: &Address, b: &Address) -> Ordering
     ensures { result ≡ slice_cmp nat_cmp a.now b.now }
 {
-    a.bytes().as_slice().cmp(b.bytes().as_slice())
+    a.cmp(b)
 }
 
 #[cycle(comparing)]
