@@ -18,7 +18,7 @@ pub fn place_in(holdings: &[Holding], address: &Address) -> usize
     ensures below { IsTrue (list_all (is_below address.now) (take result holdings.now)) }
     ensures others { IsTrue (list_all (is_not_below address.now) (drop result holdings.now)) }
 {
-    holdings.partition_point(|holding| holding.address.bytes().cmp(address.bytes()).is_lt())
+    holdings.partition_point(|holding| holding.address < *address)
 }
 
 /// What the first holding has, where that is the address's.

@@ -13,7 +13,7 @@ ghost use Rattle.ledger_state.specs.Spelling.{IsLedger, spelling};
 use crate::holding::Holding;
 use crate::state::State;
 use byte_fields::{mark_of, u32_at, u64_at};
-use cell_names::{Cell, FormatFault, FormatStop, Head, cell_at, fault_at, order};
+use cell_names::{Cell, FormatFault, FormatStop, Head, cell_at, fault_at};
 use std::alloc::Global;
 use value_codec::value_at;
 use value_core::{Address, Val};
@@ -21,12 +21,12 @@ use value_core::{Address, Val};
 /// The bytes of a cell and its value.
 const CELL: usize = 32;
 
-fn stands_above(last: Option<Address>, cell: &Cell) -> bool
-    ensures { result ≡ is_above (option_map Balance last) cell.now }
+fn stands_above(last: Option<Address>, address: &Address) -> bool
+    ensures { result ≡ is_above (option_map Balance last) (Balance address.now) }
 {
     match last {
         None => true,
-        Some(last) => order(&Cell::Balance(last), cell).is_lt(),
+        Some(last) => last < *address,
     }
 }
 
@@ -37,10 +37,10 @@ fn name_at(last: Option<Address>, bytes: &[u8]) -> Result<(Address, &[u8]), Form
 {
     match cell_at(bytes) {
         Ok((cell, rest)) => {
-            if !stands_above(last, &cell) {
+            let Cell::Balance(address) = cell;
+            if !stands_above(last, &address) {
                 return Err(FormatStop::Left(bytes.len()));
             }
-            let Cell::Balance(address) = cell;
             Ok((address, rest))
         }
         Err(stop) => Err(stop),
