@@ -23,6 +23,7 @@ cell = made (λ p. Balance p.1) (both kind address)
 abbrev pub mode_of_byte : ℕ → Mode
 mode_of_byte b = if b == 0 then modes.Read else if b == 1 then modes.Credit else modes.Own
 
+-- the byte of a mode
 abbrev pub mode : Reader Mode
 mode = made mode_of_byte (checked (λ b. nat_le b 2) (number w8))
 
