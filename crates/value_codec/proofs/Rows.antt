@@ -96,24 +96,24 @@ counted_reads {A} {items} {spell_all} {Good} Good' r to from =
     (λ all good. (ltb-true (length all) (2 ^ 32) good.0, from all good.1))
     (with_reads (number_reads w32 (2 ^ 32) wide32) r length (λ n all good. (to n all good).0))
 
-module _ (d : ℕ) (r : Reads (value d) spell (IsGood d)) where
-  pub list_reads : Reads (with (number w32) (many (value d))) (λ vs. word (length vs) ++ flat_map spell vs) (λ vs. IsTrue (is_countable vs) × AllByRecursion (IsGood d) vs)
-  list_reads = counted_reads (AllByRecursion (IsGood d)) (many_reads r) (λ n vs good. good) (λ vs good. (refl, good))
+module _ (most d : ℕ) (r : Reads (value most d) spell (IsGood most d)) where
+  pub list_reads : Reads (with (number w32) (many (value most d))) (λ vs. word (length vs) ++ flat_map spell vs) (λ vs. IsTrue (is_countable vs) × AllByRecursion (IsGood most d) vs)
+  list_reads = counted_reads (AllByRecursion (IsGood most d)) (many_reads r) (λ n vs good. good) (λ vs good. (refl, good))
 
-  pub set_reads : Reads (with (number w32) (ascending (value d) None)) (λ vs. word (length vs) ++ flat_map spell vs) (λ vs. IsTrue (is_countable vs) × (AllByRecursion (IsGood d) vs × IsTrue (ascends vs)))
-  set_reads = counted_reads (λ vs. AllByRecursion (IsGood d) vs × IsTrue (ascends vs))
-      (λ n. chained_reads {Good = GoodNext (λ v. v) (IsGood d)} (next_key (λ v. v) (IsGood d)) (λ last. checked_reads (is_above last) r) None n)
-      (λ n vs good. let up = from_along (λ v. v) (IsGood d) vs good.1 in (good.0, (up.0, sym (ap ascends (map-same vs)) ∙ up.1)))
-      (λ vs good. (refl, to_along (λ v. v) (IsGood d) vs good.0 (ap ascends (map-same vs) ∙ good.1)))
+  pub set_reads : Reads (with (number w32) (ascending (value most d) None)) (λ vs. word (length vs) ++ flat_map spell vs) (λ vs. IsTrue (is_countable vs) × (AllByRecursion (IsGood most d) vs × IsTrue (ascends vs)))
+  set_reads = counted_reads (λ vs. AllByRecursion (IsGood most d) vs × IsTrue (ascends vs))
+      (λ n. chained_reads {Good = GoodNext (λ v. v) (IsGood most d)} (next_key (λ v. v) (IsGood most d)) (λ last. checked_reads (is_above last) r) None n)
+      (λ n vs good. let up = from_along (λ v. v) (IsGood most d) vs good.1 in (good.0, (up.0, sym (ap ascends (map-same vs)) ∙ up.1)))
+      (λ vs good. (refl, to_along (λ v. v) (IsGood most d) vs good.0 (ap ascends (map-same vs) ∙ good.1)))
 
   abbrev pub GoodEntry : Val × Val → Type 0
-  GoodEntry e = IsGood d e.0 × IsGood d e.1
+  GoodEntry e = IsGood most d e.0 × IsGood most d e.1
 
-  entry_reads : (last : Option Val) → Reads (both (checked (is_above last) (value d)) (value d)) spell_entry (GoodNext (λ e. e.0) GoodEntry last)
+  entry_reads : (last : Option Val) → Reads (both (checked (is_above last) (value most d)) (value most d)) spell_entry (GoodNext (λ e. e.0) GoodEntry last)
   entry_reads last = reads_as spell_entry (GoodNext (λ e. e.0) GoodEntry last) (λ e good. (refl, ((good.0.0, good.1), good.0.1))) (λ e good. ((good.0.0, good.1), good.0.1))
       (both_reads (checked_reads (is_above last) r) r)
 
-  pub map_reads : Reads (with (number w32) (entries (value d) None)) (λ es. word (length es) ++ flat_map spell_entry es)
+  pub map_reads : Reads (with (number w32) (entries (value most d) None)) (λ es. word (length es) ++ flat_map spell_entry es)
       (λ es. IsTrue (is_countable es) × (AllByRecursion GoodEntry es × IsTrue (ascends (map (λ e. e.0) es))))
   map_reads = counted_reads (λ es. AllByRecursion GoodEntry es × IsTrue (ascends (map (λ e. e.0) es)))
       (λ n. chained_reads {Good = GoodNext (λ e. e.0) GoodEntry} (next_key (λ e. e.0) GoodEntry) entry_reads None n)

@@ -1,10 +1,11 @@
 -- The bytes of values: which they are, and which values have any.
-use Rattle.std.specs.Prelude.{ℕ, ℤ, ◌≤◌, List, [], ◌∷◌, ◌++◌, if◌then◌else◌, IsTrue, length}
+use Rattle.std.specs.Prelude.{ℕ, ℤ, ◌≤◌, List, [], ◌∷◌, ◌++◌, Bool, if◌then◌else◌, IsTrue, nat_le, length}
 use Rattle.std.specs.List.{flat_map}
 use Rattle.std.specs.Int.{w8, w32, w64, w128, to_be_bytes, cast_unsigned}
 use Rattle.value_core.specs.declared.val.Val.{Val}
 use Rattle.value_core.specs.declared.val.Val.TheOpen as one
-use Rattle.value_core.specs.Layer.{Layer, by_level}
+use Rattle.value_core.specs.Layer.{Layer, by_level, tag_of}
+use Rattle.value_core.specs.Everywhere.{everywhere}
 use Rattle.value_core.specs.Lawful.{is_lawful}
 use Rattle.value_core.specs.Sound.{is_plain}
 use Rattle.value_core.specs.Depth.{depth_of}
@@ -56,8 +57,13 @@ spell_entry e = spell e.0 ++ spell e.1
 
 -- ---- which values have one
 
--- a plain value that the program can hold, at most so deep, has a spelling
-pub record IsSpelt (most : ℕ) (v : Val) : Type 0 where
+-- no level of it has a greater tag
+abbrev pub has_tags : ℕ → Val → Bool
+has_tags most = everywhere (λ x. nat_le (tag_of x) most)
+
+-- a plain value that the program can hold, with no tag above most, and at most so deep, has a spelling
+pub record IsSpelt (most depth : ℕ) (v : Val) : Type 0 where
   pub leaves : IsTrue (is_lawful v)
   pub plain : IsTrue (is_plain v)
-  pub deep : depth_of v ≤ most
+  pub tags : IsTrue (has_tags most v)
+  pub deep : depth_of v ≤ depth

@@ -1,4 +1,5 @@
 pub mod BigMapLemmas
+pub mod Combs
 pub mod Depths
 pub mod Everywhere
 pub mod LawfulLemmas
@@ -13,3 +14,6 @@ pub mod Sizes
 pub mod SoundLemmas
 pub mod TotalOrder
 pub mod TypedLemmas
+pub mod SortedEntries
+pub mod SortedKeys
+pub mod SortedValues

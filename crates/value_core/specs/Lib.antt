@@ -7,6 +7,7 @@ pub mod Order
 pub mod Everywhere
 pub mod Lawful
 pub mod Sound
+pub mod Sorted
 pub mod Kinds
 pub mod Typed
 pub mod Depth
@@ -14,8 +15,10 @@ pub mod Nodes
 pub mod BigMaps
 -- what functions inside promise each other
 pub mod Padding
+pub mod BytesOrder
 pub mod SoundParts
 pub mod Settled
 pub mod Counting
+pub mod Alike
 -- laws that proofs cite, here and in other crates
 pub mod TypeLevels

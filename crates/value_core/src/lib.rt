@@ -21,8 +21,8 @@
 //!
 //! A definition over all values is said once for one level of a value, in `specs/Layer.antt`:
 //! its tag, what stands in it, and its parts. Every public call equals its definition in
-//! `specs/`. Only copies and the makers of values take memory. Recursion goes as deep as the
-//! value, and never as far as a list is long.
+//! `specs/`. Only copies and the makers of values take memory. Recursion goes as deep as brackets
+//! do where a value or a type is written flat: a loop follows last parts, and none follows a list.
 #![tactic(auto)]
 
 mod address;
@@ -39,6 +39,7 @@ mod ordering;
 mod plainness;
 mod sameness;
 mod sizing;
+mod sorted_laws;
 mod soundness;
 #[cfg(test)]
 mod tests;
@@ -59,6 +60,10 @@ pub use num::Num;
 pub use ordering::{compare, order_is_total};
 pub use plainness::is_plain;
 pub use sizing::size;
+pub use sorted_laws::{
+    a_map_has_what_is_put, a_map_lacks_what_is_removed, a_set_has_what_is_inserted,
+    a_set_lacks_what_is_removed, ascending_lists_are_sets_and_maps,
+};
 pub use soundness::is_sound;
 pub use text::{Blob, Text};
 pub use ty::Ty;
