@@ -1,4 +1,7 @@
 pub mod BigMapLemmas
+pub mod Canonical
+pub mod CanonicalLevels
+pub mod CanonicalScalars
 pub mod Combs
 pub mod Depths
 pub mod Everywhere
@@ -9,10 +12,12 @@ pub mod Padded
 pub mod PlainTyped
 pub mod SettledLemmas
 pub mod SizeLaws
+pub mod SizeParts
 pub mod Smaller
 pub mod Sizes
 pub mod SoundLemmas
 pub mod TotalOrder
+pub mod TypeEquations
 pub mod TypedLemmas
 pub mod SortedEntries
 pub mod SortedKeys

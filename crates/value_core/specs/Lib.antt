@@ -10,6 +10,7 @@ pub mod Sound
 pub mod Sorted
 pub mod Kinds
 pub mod Typed
+pub mod Forms
 pub mod Depth
 pub mod Nodes
 pub mod BigMaps

@@ -5,6 +5,7 @@
 //! bytes, and each leaf keeps its own rule as an invariant: a `Num` is a whole number from
 //! -(2^127 - 1) to 2^127 - 1, a `Text` a list of at most 131,071 printable bytes, and so on.
 //!
+//! - `laws`: what is true of all values and types, each law a clause.
 //! - `val`, `ty`: the two trees, and the operation that a contract emits. Begin here.
 //! - `num`, `text`, `address`, `name`: the leaves, each made from outside data by its rule.
 //! - `copying`, `sameness`: equal values, and whether two are equal.
@@ -31,6 +32,7 @@ mod copying;
 mod depth;
 mod kinds;
 mod lawfulness;
+mod laws;
 mod limits;
 mod memory;
 mod name;
@@ -53,6 +55,10 @@ pub use big_maps::{count_big_maps, has_no_big_map, is_placed};
 pub use depth::{is_within_depth, type_is_within_depth};
 pub use kinds::{is_comparable, is_passable};
 pub use lawfulness::leaves_are_lawful;
+pub use laws::{
+    everywhere_is_here_and_in_the_parts, sizes_count_what_is_there, typed_scalars_have_their_form,
+    typed_values_have_their_form, types_go_by_parts,
+};
 pub use limits::{is_within_size, type_is_within_nodes};
 pub use memory::NoMemory;
 pub use name::Name;
