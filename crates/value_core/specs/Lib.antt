@@ -7,6 +7,7 @@ pub mod Order
 pub mod Everywhere
 pub mod Sound
 pub mod Sorted
+pub mod Places
 pub mod Kinds
 pub mod Typed
 pub mod Depth
