@@ -1,10 +1,15 @@
+pub mod BigMapLemmas
 pub mod Combs
+pub mod Depths
 pub mod Everywhere
 pub mod LawfulLemmas
 pub mod Levels
 pub mod OrderLemmas
 pub mod Padded
 pub mod PlainTyped
+pub mod SettledLemmas
+pub mod SizeLaws
+pub mod Smaller
 pub mod Sizes
 pub mod SoundLemmas
 pub mod TotalOrder

@@ -15,6 +15,10 @@
 //! - `lawfulness`: each leaf of a value that the program holds keeps its rule, whatever the value.
 //! - `sorted`, `sorted_laws`: sets and maps as ascending lists, in which a key is found by halving,
 //!   and what an insertion or a removal leaves.
+//! - `plainness`: which values may be written and kept.
+//! - `depth`, `limits`: whether values and types are too deep or too large, without a look at more
+//!   than there may be.
+//! - `big_maps`: the big maps of a type, and whether those of a value stand at their own places.
 //! - `kinds`, `typing`: what a type may be used for, and which values have it.
 //!
 //! A definition over all values is said once for one level of a value, in `specs/Layer.antt`:
@@ -24,13 +28,17 @@
 #![tactic(auto)]
 
 mod address;
+mod big_maps;
 mod copying;
+mod depth;
 mod kinds;
 mod lawfulness;
+mod limits;
 mod memory;
 mod name;
 mod num;
 mod ordering;
+mod plainness;
 mod sameness;
 mod sizing;
 mod sorted;
@@ -44,12 +52,16 @@ mod typing;
 mod val;
 
 pub use address::{Address, AddressFault};
+pub use big_maps::{count_big_maps, has_no_big_map, is_placed};
+pub use depth::{is_within_depth, type_is_within_depth};
 pub use kinds::{is_comparable, is_passable};
 pub use lawfulness::leaves_are_lawful;
+pub use limits::{is_within_size, type_is_within_nodes};
 pub use memory::NoMemory;
 pub use name::Name;
 pub use num::Num;
 pub use ordering::{compare, order_is_total};
+pub use plainness::is_plain;
 pub use sizing::size;
 pub use sorted::{map_get, map_remove, place_in_map, place_in_set, set_has, set_remove};
 pub use sorted_laws::{
