@@ -22,3 +22,5 @@ pub mod TypedLemmas
 pub mod SortedEntries
 pub mod SortedKeys
 pub mod SortedValues
+pub mod PlaceLemmas
+pub mod SortedPlaces

@@ -8,6 +8,7 @@ pub mod Everywhere
 pub mod Lawful
 pub mod Sound
 pub mod Sorted
+pub mod Places
 pub mod Kinds
 pub mod Typed
 pub mod Forms

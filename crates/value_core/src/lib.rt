@@ -14,6 +14,8 @@
 //! - `sizing`: how large a value is.
 //! - `soundness`: ranges, counts, and the order of items and keys.
 //! - `lawfulness`: each leaf of a value that the program holds keeps its rule, whatever the value.
+//! - `sorted`, `sorted_laws`: sets and maps as ascending lists, in which a key is found by halving,
+//!   and what an insertion or a removal leaves.
 //! - `plainness`: which values may be written and kept.
 //! - `depth`, `limits`: whether values and types are too deep or too large, without a look at more
 //!   than there may be.
@@ -41,6 +43,7 @@ mod ordering;
 mod plainness;
 mod sameness;
 mod sizing;
+mod sorted;
 mod sorted_laws;
 mod soundness;
 #[cfg(test)]
@@ -66,6 +69,7 @@ pub use num::Num;
 pub use ordering::{compare, order_is_total};
 pub use plainness::is_plain;
 pub use sizing::size;
+pub use sorted::{map_get, map_remove, place_in_map, place_in_set, set_has, set_remove};
 pub use sorted_laws::{
     a_map_has_what_is_put, a_map_lacks_what_is_removed, a_set_has_what_is_inserted,
     a_set_lacks_what_is_removed, ascending_lists_are_sets_and_maps,
