@@ -2,6 +2,7 @@
 pub mod Leaves
 pub mod Addresses
 pub mod Layer
+pub mod Combs
 pub mod Size
 pub mod Order
 pub mod Everywhere

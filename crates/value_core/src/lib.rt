@@ -24,8 +24,8 @@
 //!
 //! A definition over all values is said once for one level of a value, in `specs/Layer.antt`:
 //! its tag, what stands in it, and its parts. Every public call equals its definition in
-//! `specs/`. Only copies and the makers of values take memory. Recursion goes as deep as brackets
-//! do where a value or a type is written flat: a loop follows last parts, and none follows a list.
+//! `specs/`. Only copies and the makers of values take memory. A loop follows the last parts of
+//! pairs, so recursion goes as deep as brackets in a text, however long its lists and combs are.
 #![tactic(auto)]
 
 mod address;
@@ -78,4 +78,4 @@ pub use soundness::is_sound;
 pub use text::{Blob, Text};
 pub use ty::Ty;
 pub use typing::{has_type, typed_values_are_plain};
-pub use val::{Emit, Val, left, operation, pair, right, some};
+pub use val::{Emit, Val, comb, left, operation, pair, right, some};
