@@ -1,4 +1,6 @@
+pub mod Combs
 pub mod Everywhere
+pub mod LawfulLemmas
 pub mod Levels
 pub mod OrderLemmas
 pub mod Padded
@@ -12,3 +14,4 @@ pub mod SortedKeys
 pub mod SortedValues
 pub mod PlaceLemmas
 pub mod SortedPlaces
+pub mod InsertionLemmas

@@ -5,6 +5,7 @@ pub mod Layer
 pub mod Size
 pub mod Order
 pub mod Everywhere
+pub mod Lawful
 pub mod Sound
 pub mod Sorted
 pub mod Places
@@ -15,3 +16,4 @@ pub mod Depth
 pub mod Padding
 pub mod BytesOrder
 pub mod SoundParts
+pub mod Alike

@@ -27,7 +27,7 @@ impl Val {
             Val::Some(part) => some(alloc, part.get().copy(alloc)?),
             Val::Left(part) => left(alloc, part.get().copy(alloc)?),
             Val::Right(part) => right(alloc, part.get().copy(alloc)?),
-            Val::Pair(a, b) => pair(alloc, a.get().copy(alloc)?, b.get().copy(alloc)?),
+            Val::Pair(first, rest) => copy_comb(alloc, first.get(), rest.get()),
             Val::List(items) => Ok(Val::List(copy_all(alloc, items.as_slice())?)),
             Val::Set(items) => Ok(Val::Set(copy_all(alloc, items.as_slice())?)),
             Val::Map(entries) => Ok(Val::Map(copy_entries(alloc, entries.as_slice())?)),
@@ -54,6 +54,26 @@ impl Emit {
             amount: self.amount,
         })
     }
+}
+
+// The pair of the copies of two values; the first parts of a comb wait in a list for its last one.
+#[cycle(copying)]
+#[tactic(auto, using(crate::proofs::Combs::one_more_part))]
+fn copy_comb(alloc: Global, first: &Val, rest: &Val) -> Result<Val, NoMemory>
+    ensures { IfOk result (λ v. v ≡ Val.Pair first.now rest.now) }
+{
+    let mut firsts = Items::new(alloc);
+    let (mut left, mut right) = (first, rest);
+    while let Val::Pair(next, behind) = right {
+        firsts.push(left.copy(alloc)?)?;
+        left = next.get();
+        right = behind.get();
+    }
+    let mut comb = pair(alloc, left.copy(alloc)?, right.copy(alloc)?)?;
+    while let Some(part) = firsts.pop() {
+        comb = pair(alloc, part, comb)?;
+    }
+    Ok(comb)
 }
 
 #[cycle(copying)]

@@ -12,19 +12,23 @@
 //!   a total order, in which equal values alone tie.
 //! - `sizing`: how large a value is.
 //! - `soundness`: ranges, counts, and the order of items and keys.
-//! - `sorted`, `sorted_laws`: sets and maps as ascending lists, in which a key is found by halving,
-//!   and what an insertion or a removal leaves.
+//! - `sorted`, `inserting`, `sorted_laws`: sets and maps as ascending lists, in which a key is found
+//!   by halving, and what an insertion or a removal leaves.
+//! - `lawfulness`: each leaf of a value that the program holds keeps its rule, whatever the value.
 //! - `kinds`, `typing`: what a type may be used for, and which values have it.
 //!
 //! A definition over all values is said once for one level of a value, in `specs/Layer.antt`:
 //! its tag, what stands in it, and its parts. Every public call equals its definition in
-//! `specs/`. Only copies and the makers of values take memory. Recursion goes as deep as the
-//! value, and never as far as a list is long.
+//! `specs/`. Only copies, the makers of values and insertions take memory. Recursion goes as deep
+//! as brackets do where a value or a type is written flat: a loop follows last parts, and none
+//! follows a list.
 #![tactic(auto)]
 
 mod address;
 mod copying;
+mod inserting;
 mod kinds;
+mod lawfulness;
 mod memory;
 mod name;
 mod num;
@@ -42,7 +46,9 @@ mod typing;
 mod val;
 
 pub use address::{Address, AddressFault};
+pub use inserting::{map_put, set_insert};
 pub use kinds::{is_comparable, is_passable};
+pub use lawfulness::leaves_are_lawful;
 pub use memory::NoMemory;
 pub use name::Name;
 pub use num::Num;

@@ -1,6 +1,7 @@
 //! Values, and the operations that a contract emits.
 
-ghost use Rattle.std.specs.Prelude.{◌≡◌, IfOk};
+ghost use Rattle.std.specs.Prelude.{◌≡◌, ◌≢◌, IfErr, IfOk, List, OnErr};
+ghost use Rattle.value_core.specs.declared.val.Val.{Val};
 
 use crate::address::Address;
 use crate::memory::NoMemory;
@@ -12,7 +13,7 @@ use std::alloc::Global;
 
 /// A value of contract data. `Nothing` is Michelson's `None`.
 #[cycle(values)]
-#[derive(Debug, Drop)]
+#[derive(Debug)]
 pub enum Val {
     Unit,
     Bool(bool),
@@ -36,6 +37,40 @@ pub enum Val {
     Operation(Boxed<Emit>),
 }
 
+// The last part is dropped in the loop: a flat `Pair` is as deep as it has parts.
+impl Drop for Val {
+    #[cycle(dropping)]
+    fn drop(mut self) {
+        loop {
+            match self {
+                Val::Some(last) | Val::Left(last) | Val::Right(last) => self = last.into_inner(),
+                Val::Pair(first, last) => {
+                    drop(first);
+                    self = last.into_inner();
+                }
+                Val::Text(text) => return drop(text),
+                Val::Bytes(blob) => return drop(blob),
+                Val::List(items) | Val::Set(items) => return drop(items),
+                Val::Map(entries) => return drop(entries),
+                Val::Operation(emit) => return drop(emit),
+                Val::Unit
+                | Val::Bool(_)
+                | Val::Int(_)
+                | Val::Nat(_)
+                | Val::Mutez(_)
+                | Val::Time(_)
+                | Val::Addr(_)
+                | Val::Nothing
+                | Val::BigMap {
+                    place: _,
+                    version: _,
+                }
+                | Val::Contract(_, _) => return,
+            }
+        }
+    }
+}
+
 /// An operation that a contract emits: `amount` goes to `dest`, whose `entry` is given `param`.
 #[cycle(values)]
 #[derive(Debug, Drop)]
@@ -44,6 +79,32 @@ pub struct Emit {
     pub entry: Name,
     pub param: Val,
     pub amount: u64,
+}
+
+impl Val {
+    /// The two values of a pair; any other value is given back.
+    pub fn into_pair(self) -> Result<(Val, Val), Val>
+        ensures pair { IfOk result (λ parts. self ≡ Val.Pair parts.0 parts.1) }
+        ensures other { IfErr result (λ v. v ≡ self) }
+        ensures unpaired { OnErr result ((a b : Val) → self ≢ Val.Pair a b) }
+    {
+        match self {
+            Val::Pair(a, b) => Ok((a.into_inner(), b.into_inner())),
+            other => Err(other),
+        }
+    }
+
+    /// The entries of a map; any other value is given back.
+    pub fn into_entries(self) -> Result<Items<(Val, Val)>, Val>
+        ensures map { IfOk result (λ entries. self ≡ Val.Map entries) }
+        ensures other { IfErr result (λ v. v ≡ self) }
+        ensures unmapped { OnErr result ((entries : List (Val × Val)) → self ≢ Val.Map entries) }
+    {
+        match self {
+            Val::Map(entries) => Ok(entries),
+            other => Err(other),
+        }
+    }
 }
 
 /// `Some` of a value.
