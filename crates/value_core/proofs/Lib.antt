@@ -24,3 +24,4 @@ pub mod SortedKeys
 pub mod SortedValues
 pub mod PlaceLemmas
 pub mod SortedPlaces
+pub mod InsertionLemmas

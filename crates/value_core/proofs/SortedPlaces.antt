@@ -18,7 +18,7 @@ use Rattle.value_core.proofs.SortedValues.{ascends-keys, ascends-units, ties, to
 
 -- ---- maps
 
-in_order : (es : List (Val × Val)) → ascends (keys_of es) ≡ true → is_sorted order es ≡ true
+pub in_order : (es : List (Val × Val)) → ascends (keys_of es) ≡ true → is_sorted order es ≡ true
 in_order es up = sym (ascends-keys es) ∙ up
 
 pub map_stands : (es : List (Val × Val)) (q : Val) (r : Result ℕ ℕ) → ascends (keys_of es) ≡ true → IsSearchInRange r (length es) → IsBinarySearchResult (λ e. order e.0 q) es r → StandsAt (λ e. e.0) order es q r
@@ -57,7 +57,7 @@ set_sorted vs up k d low high =
     let within : k + 1 < length (units vs) = omega (arith, high, length-units vs) in
     (λ i. is_lt (order (sym (units-at vs (k + 1) d) i) (sym (units-at vs k d) i))) ∙ sorted_by total (units vs) (units_in_order vs up) k (d, tt) low within
 
-set_rises : (vs : List Val) (j k : ℕ) (d : Val) → ascends vs ≡ true → j < k → k < length vs → order (get_or vs j d) (get_or vs k d) ≡ Less
+pub set_rises : (vs : List Val) (j k : ℕ) (d : Val) → ascends vs ≡ true → j < k → k < length vs → order (get_or vs j d) (get_or vs k d) ≡ Less
 set_rises vs j k d up lt small =
     let within : k < length (units vs) = omega (arith, small, length-units vs) in
     (λ i. order (sym (units-at vs j d) i) (sym (units-at vs k d) i)) ∙ rises total (units vs) j k (d, tt) (units_in_order vs up) lt within

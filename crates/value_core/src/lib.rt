@@ -14,8 +14,8 @@
 //! - `sizing`: how large a value is.
 //! - `soundness`: ranges, counts, and the order of items and keys.
 //! - `lawfulness`: each leaf of a value that the program holds keeps its rule, whatever the value.
-//! - `sorted`, `sorted_laws`: sets and maps as ascending lists, in which a key is found by halving,
-//!   and what an insertion or a removal leaves.
+//! - `sorted`, `inserting`, `sorted_laws`: sets and maps as ascending lists, in which a key is found
+//!   by halving, and what an insertion or a removal leaves.
 //! - `plainness`: which values may be written and kept.
 //! - `depth`, `limits`: whether values and types are too deep or too large, without a look at more
 //!   than there may be.
@@ -24,14 +24,16 @@
 //!
 //! A definition over all values is said once for one level of a value, in `specs/Layer.antt`:
 //! its tag, what stands in it, and its parts. Every public call equals its definition in
-//! `specs/`. Only copies and the makers of values take memory. A loop follows the last parts of
-//! pairs, so recursion goes as deep as brackets in a text, however long its lists and combs are.
+//! `specs/`. Only copies, the makers of values and insertions take memory. A loop follows the last
+//! parts of pairs, so recursion goes as deep as brackets in a text, however long its lists and
+//! combs are.
 #![tactic(auto)]
 
 mod address;
 mod big_maps;
 mod copying;
 mod depth;
+mod inserting;
 mod kinds;
 mod lawfulness;
 mod laws;
@@ -56,6 +58,7 @@ mod val;
 pub use address::{Address, AddressFault};
 pub use big_maps::{count_big_maps, has_no_big_map, is_placed};
 pub use depth::{is_within_depth, type_is_within_depth};
+pub use inserting::{map_put, set_insert};
 pub use kinds::{is_comparable, is_passable};
 pub use lawfulness::leaves_are_lawful;
 pub use laws::{
