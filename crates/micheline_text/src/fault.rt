@@ -16,6 +16,7 @@ pub enum TextFault {
     WiderNumber(usize),
     /// The bracket within 256 open ones: at it.
     TooDeep(usize),
+    /// Memory ran out.
     NoMemory,
 }
 

@@ -9,23 +9,41 @@ use std::alloc::Global;
 /// What a value may be built as.
 #[derive(Debug)]
 pub enum Ty {
+    /// The one value `Unit`.
     Unit,
+    /// True or false.
     Bool,
+    /// A whole number from -(2^127 - 1) to 2^127 - 1.
     Int,
+    /// A whole number from 0 to 2^127 - 1.
     Nat,
+    /// An amount of money, from 0 to 2^63 - 1 millionths.
     Mutez,
+    /// Seconds since 1970, with the range of `Int`.
     Time,
+    /// At most 131,071 printable characters and newlines.
     Text,
+    /// At most 131,071 bytes.
     Bytes,
+    /// The 22 bytes of an account or a contract.
     Addr,
+    /// None, or a value.
     Option(Boxed<Ty>),
+    /// A value on the left, or one on the right.
     Or(Boxed<Ty>, Boxed<Ty>),
+    /// Two values.
     Pair(Boxed<Ty>, Boxed<Ty>),
+    /// Values in a row.
     List(Boxed<Ty>),
+    /// Values that strictly ascend.
     Set(Boxed<Ty>),
+    /// Keys that strictly ascend, each with a value.
     Map(Boxed<Ty>, Boxed<Ty>),
+    /// A map that stays in the state, named by its place.
     BigMap(Boxed<Ty>, Boxed<Ty>),
+    /// The entry of a contract that takes such a value.
     Contract(Boxed<Ty>),
+    /// What a contract emits.
     Operation,
 }
 

@@ -16,25 +16,45 @@ use std::alloc::Global;
 #[cycle(values)]
 #[derive(Debug)]
 pub enum Val {
+    /// The one value of its type.
     Unit,
+    /// True or false.
     Bool(bool),
+    /// A whole number.
     Int(Num),
+    /// A whole number; a sound value has none below 0.
     Nat(Num),
+    /// An amount in millionths; of a sound value below 2^63.
     Mutez(u64),
+    /// Seconds since 1970, also before.
     Time(Num),
+    /// Printable characters and newlines.
     Text(Text),
+    /// Any bytes.
     Bytes(Blob),
+    /// The address of an account or a contract.
     Addr(Address),
+    /// An option without a value.
     Nothing,
+    /// An option with its value.
     Some(Boxed<Val>),
+    /// The left of an `or`.
     Left(Boxed<Val>),
+    /// The right of an `or`.
     Right(Boxed<Val>),
+    /// Two values, the first and the second.
     Pair(Boxed<Val>, Boxed<Val>),
+    /// Values in a row; of a sound value fewer than 2^32.
     List(Items<Val>),
+    /// Values; of a sound value strictly ascending.
     Set(Items<Val>),
+    /// Keys with their values; of a sound value strictly ascending by key.
     Map(Items<(Val, Val)>),
+    /// A map of the state: its place in the storage, below 16 in a sound value, and its version, 0 where it is unchanged.
     BigMap { place: u8, version: u32 },
+    /// The entry of a contract that stands.
     Contract(Address, Name),
+    /// What a contract emits.
     Operation(Boxed<Emit>),
 }
 
@@ -76,9 +96,13 @@ impl Drop for Val {
 #[cycle(values)]
 #[derive(Debug, Drop)]
 pub struct Emit {
+    /// The account or contract that is called.
     pub dest: Address,
+    /// The name of its entry; an account has `default`.
     pub entry: Name,
+    /// What the entry is given.
     pub param: Val,
+    /// Millionths that go along; in a sound value below 2^63.
     pub amount: u64,
 }
 
