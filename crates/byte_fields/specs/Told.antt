@@ -10,13 +10,16 @@ use Rattle.byte_fields.specs.Readers.{Read}
 
 -- ---- the stop that an answer tells, and none where memory ran out
 
+-- of what takes no memory: always a faulty field
 abbrev pub left_stop : Left → Stop
 left_stop left = Stopped Faulty left.0
 
+-- of what takes memory
 abbrev pub read_stop : ReadStop → Option Stop
 read_stop stops.NoMemory = None
 read_stop (stops.Left n) = Some (Stopped Faulty n)
 
+-- for callers of a format, by its place
 abbrev pub field_fault : FieldFault → Option Stop
 field_fault faults.NoMemory = None
 field_fault (faults.At at) = Some (Stopped Faulty at.0)

@@ -67,14 +67,6 @@ impl Draft {
         self.bytes.extend_from_slice(text)
     }
 
-    /// Adds a number of four bytes, the highest first.
-    pub fn put_u32(&mut self, number: u32) -> Result<(), AllocError>
-        ensures added { OnOk result (self.new.added ≡ self.old.added ++ to_be_bytes w32 number) }
-        ensures before { self.new.before ≡ self.old.before }
-    {
-        self.put_run(&number.to_be_bytes())
-    }
-
     /// Adds a number of eight bytes, the highest first.
     pub fn put_u64(&mut self, number: u64) -> Result<(), AllocError>
         ensures added { OnOk result (self.new.added ≡ self.old.added ++ to_be_bytes w64 number) }
@@ -93,7 +85,8 @@ impl Draft {
 
     /// Adds a number of sixteen bytes in two's complement, the highest first.
     pub fn put_i128(&mut self, number: i128) -> Result<(), AllocError>
-        ensures added { OnOk result (self.new.added ≡ self.old.added ++ to_be_bytes w128 (cast_unsigned w128 number)) }
+        ensures added { OnOk result (self.new.added ≡ self.old.added
+            ++ to_be_bytes w128 (cast_unsigned w128 number)) }
         ensures before { self.new.before ≡ self.old.before }
     {
         self.put_u128(number.cast_unsigned())

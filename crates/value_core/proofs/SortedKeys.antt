@@ -20,7 +20,7 @@ pub keys-units : {K : Type 0} (ks : List K) → map (λ e. e.0) (units ks) ≡ k
 keys-units [] = refl
 keys-units (k ∷ ks) = ap (λ l. k ∷ l) (keys-units ks)
 
-length-units : {K : Type 0} (ks : List K) → length (units ks) ≡ length ks
+pub length-units : {K : Type 0} (ks : List K) → length (units ks) ≡ length ks
 length-units [] = refl
 length-units (k ∷ ks) = ap (λ n. suc n) (length-units ks)
 
