@@ -68,7 +68,7 @@ module _ {A : Type 0} {read : PartReader A} {spell : A → List ℕ} {Good : A �
   all_is_found (Ok a) fits tells = found_in a (read bytes) fits refl tells
   all_is_found (Err e) fits tells = tt
 
-  read_again : (a : A) → Good a → bytes ≡ spell a → told_alone (length bytes) (read bytes) ≡ Ok a
+  pub read_again : (a : A) → Good a → bytes ≡ spell a → told_alone (length bytes) (read bytes) ≡ Ok a
   read_again a good e = ap (told_alone (length bytes)) (forget_ok (read bytes) (a, []) (ap (forgets read) e ∙ r.law.again a good))
 
   pub all_is_told : (told : Result A FormatFault) → IsTold told (told_alone (length bytes) (read bytes)) → (a : A) → Good a → bytes ≡ spell a → IsTold told (Ok a)
