@@ -61,7 +61,7 @@ module _ {A : Type 0} {read : Reader A} {spell : A → List ℕ} {Good : A → T
 -- ---- a reader of all of the bytes
 
 module _ {A : Type 0} {read : Reader A} {spell : A → List ℕ} {Good : A → Type 0} (r : ReadsWhole read spell Good) (bytes : List ℕ) where
-  all_spelt_in : (a : A) (y : Read A) → IsBytes bytes → read bytes ≡ y → alone (length bytes) y ≡ Ok a → Good a × (bytes ≡ spell a)
+  pub all_spelt_in : (a : A) (y : Read A) → IsBytes bytes → read bytes ≡ y → alone (length bytes) y ≡ Ok a → Good a × (bytes ≡ spell a)
   all_spelt_in a (Ok y) fits is e =
       let t = r.takes bytes y.0 y.1 fits is in
       let same : y.0 ≡ a = cc in
@@ -74,3 +74,7 @@ module _ {A : Type 0} {read : Reader A} {spell : A → List ℕ} {Good : A → T
 
   pub all_is_told : {E : Type 0} (fault : E → Option Stop) (told : Result A E) → AnswersUnlessFull fault (λ x. x) told (alone (length bytes) (read bytes)) → TellsWhole fault spell Good bytes told
   all_is_told fault told tells a good e = subst (AnswersUnlessFull fault (λ x. x) told) (ap (alone (length bytes)) (ap read e ∙ r.again a good)) tells
+
+-- and what all of the bytes spell is read of them
+pub all_again : {A : Type 0} {read : Reader A} {spell : A → List ℕ} {Good : A → Type 0} → ReadsWhole read spell Good → (a : A) → Good a → alone (length (spell a)) (read (spell a)) ≡ Ok a
+all_again {A} {read} {spell} r a good = ap (alone (length (spell a))) (r.again a good)
