@@ -16,6 +16,7 @@ use Rattle.value_core.specs.declared.ty.Ty.TheFolds.{fold-Ty, map-Ty}
 use Rattle.value_core.specs.Layer.{Layer, flat}
 use Rattle.value_core.specs.BigMaps.{Beside, Placing, beside_level, big_maps_here, big_maps_of, has_no_big_map, is_at_place, is_no_big_map, is_placed_pair, place_behind, placing, placing_level}
 use Rattle.value_core.specs.TypeLevels.{fold-at, rolls_big_map, rolls_pair, shows_big_map, shows_pair}
+use Rattle.value_core.proofs.Bools.{and_true}
 use Rattle.value_core.proofs.Levels.{out-roll, roll-out}
 use Rattle.value_core.proofs.Everywhere.{everywhere-roll}
 
@@ -29,10 +30,6 @@ no_big_map-set vs = ap has_no_big_map (sym (value.rolls-Set vs)) ∙ everywhere-
 
 pub no_big_map-map : (es : List (Val × Val)) → has_no_big_map (value.Map es) ≡ list_all has_no_big_map (flat es)
 no_big_map-map es = ap has_no_big_map (sym (value.rolls-Map es)) ∙ everywhere-roll is_no_big_map (one.Map es)
-
-and_true : (b : Bool) → (b && true) ≡ b
-and_true true = refl
-and_true false = refl
 
 pub no_big_map-operation : (emit : Emit) → has_no_big_map (value.Operation emit) ≡ has_no_big_map emit.param
 no_big_map-operation emit = ap has_no_big_map (sym (value.rolls-Operation emit)) ∙ everywhere-roll is_no_big_map (one.Operation emit) ∙ and_true _

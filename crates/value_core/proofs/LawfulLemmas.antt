@@ -1,5 +1,5 @@
 -- Lawful lists, sets and maps, by what they hold; and bytes.
-use Rattle.std.proofs.Common.{◌≡◌, ℕ, zero, suc, ◌<◌, Bool, true, false, List, [], ◌∷◌, get_or, refl, ap, sym, ◌∙◌, arith}
+use Rattle.std.proofs.Common.{◌≡◌, ℕ, zero, suc, ◌<◌, true, List, [], ◌∷◌, get_or, refl, ap, sym, ◌∙◌, arith}
 use Rattle.std.specs.List.{list_all}
 use Rattle.std.specs.Prelude.{◌&&◌, nat_lt}
 use Rattle.std.proofs.lemmas.Bool.{and_parts, lt-ltb, ltb-true}
@@ -9,6 +9,7 @@ use Rattle.value_core.specs.declared.val.Val.TheVariants.{rolls-List, rolls-Set,
 use Rattle.value_core.specs.declared.val.Val.TheOpen as one
 use Rattle.value_core.specs.Layer.{flat}
 use Rattle.value_core.specs.Lawful.{are_bytes, is_lawful, is_lawful_entry, is_lawful_level}
+use Rattle.value_core.proofs.Bools.{regrouped}
 use Rattle.value_core.proofs.Everywhere.{everywhere-roll}
 
 pub lawful-list : (vs : List Val) → is_lawful (variant.List vs) ≡ list_all is_lawful vs
@@ -17,13 +18,9 @@ lawful-list vs = ap is_lawful (sym (rolls-List vs)) ∙ everywhere-roll is_lawfu
 pub lawful-set : (vs : List Val) → is_lawful (variant.Set vs) ≡ list_all is_lawful vs
 lawful-set vs = ap is_lawful (sym (rolls-Set vs)) ∙ everywhere-roll is_lawful_level (one.Set vs)
 
-and_assoc : (a b c : Bool) → (a && (b && c)) ≡ ((a && b) && c)
-and_assoc true b c = refl
-and_assoc false b c = refl
-
 lawful-flat : (es : List (Val × Val)) → list_all is_lawful (flat es) ≡ list_all is_lawful_entry es
 lawful-flat [] = refl
-lawful-flat (e ∷ es) = ap (λ b. is_lawful e.0 && (is_lawful e.1 && b)) (lawful-flat es) ∙ and_assoc (is_lawful e.0) (is_lawful e.1) _
+lawful-flat (e ∷ es) = ap (λ b. is_lawful e.0 && (is_lawful e.1 && b)) (lawful-flat es) ∙ regrouped (is_lawful e.0) (is_lawful e.1) _
 
 pub lawful-map : (es : List (Val × Val)) → is_lawful (variant.Map es) ≡ list_all is_lawful_entry es
 lawful-map es = ap is_lawful (sym (rolls-Map es)) ∙ everywhere-roll is_lawful_level (one.Map es) ∙ lawful-flat es

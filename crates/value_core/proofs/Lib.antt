@@ -1,4 +1,5 @@
 pub mod BigMapLemmas
+pub mod Bools
 pub mod Canonical
 pub mod CanonicalLevels
 pub mod CanonicalScalars

@@ -1,5 +1,5 @@
 -- Settled lists, sets and maps; and tests of every level, one beside another.
-use Rattle.std.proofs.Common.{◌≡◌, Bool, true, false, List, [], ◌∷◌, ap, refl, sym, ◌∙◌}
+use Rattle.std.proofs.Common.{◌≡◌, Bool, List, [], ◌∷◌, ap, refl, sym, ◌∙◌}
 use Rattle.std.specs.Prelude.{◌&&◌}
 use Rattle.std.specs.List.{list_all}
 use Rattle.value_core.specs.declared.val.Val.{Val}
@@ -11,6 +11,7 @@ use Rattle.value_core.specs.Layer.{Layer, flat, parts_of}
 use Rattle.value_core.specs.Everywhere.{everywhere}
 use Rattle.value_core.specs.Settled.{is_settled}
 use Rattle.value_core.specs.Sound.{is_plain, is_settled_level, is_sound, is_sound_level}
+use Rattle.value_core.proofs.Bools.{exchanged, turned}
 use Rattle.value_core.proofs.Levels.{Each, induction}
 use Rattle.value_core.proofs.Everywhere.{everywhere-is, everywhere-roll}
 
@@ -26,12 +27,6 @@ settled-map es = ap is_settled (sym (rolls-Map es)) ∙ everywhere-roll is_settl
 pub ruleset settled_lists = (settled-list, settled-set, settled-map)
 
 -- ---- two tests
-
-exchanged : (a b c d : Bool) → ((a && b) && (c && d)) ≡ ((a && c) && (b && d))
-exchanged true true c d = refl
-exchanged true false true d = refl
-exchanged true false false d = refl
-exchanged false b c d = refl
 
 module _ (p q : Layer Val → Bool) where
   abbrev both : Layer Val → Bool
@@ -52,12 +47,6 @@ module _ (p q : Layer Val → Bool) where
       ∙ ap (λ b. both (out-Val v) && b) (all_split (parts_of (out-Val v)) h)
       ∙ exchanged (p (out-Val v)) (q (out-Val v)) (list_all (everywhere p) (parts_of (out-Val v))) (list_all (everywhere q) (parts_of (out-Val v)))
       ∙ (λ i. sym (everywhere-is p v) i && sym (everywhere-is q v) i))
-
-turned : (a b : Bool) → (a && b) ≡ (b && a)
-turned true true = refl
-turned true false = refl
-turned false true = refl
-turned false false = refl
 
 pub plain-and : (v : Val) → (is_settled v && is_sound v) ≡ is_plain v
 plain-and v = turned (is_settled v) (is_sound v) ∙ sym (everywhere-and is_sound_level is_settled_level v)

@@ -16,6 +16,7 @@ use Rattle.value_core.specs.declared.ty.Ty.TheViews.{out-Ty, the_lemmas}
 use Rattle.value_core.specs.Layer.{Layer, flat, on_parts, parts_of}
 use Rattle.value_core.specs.Sound.{ascends, is_countable, is_sound, is_sound_level}
 use Rattle.value_core.specs.Typed.{fits, fits_level, has_type}
+use Rattle.value_core.proofs.Bools.{exchanged, regrouped}
 use Rattle.value_core.proofs.Levels.{by_level-is, by_level-roll}
 use Rattle.value_core.proofs.Everywhere.{everywhere-roll}
 
@@ -113,12 +114,6 @@ has_type-operation emit =
 
 -- ---- of many
 
-exchanged : (a b c d : Bool) → ((a && b) && (c && d)) ≡ ((a && c) && (b && d))
-exchanged true true c d = refl
-exchanged true false true d = refl
-exchanged true false false d = refl
-exchanged false b c d = refl
-
 all_and : {A : Type 0} (p q : A → Bool) (xs : List A) → (list_all p xs && list_all q xs) ≡ list_all (λ x. p x && q x) xs
 all_and p q [] = refl
 all_and p q (x ∷ xs) = exchanged (p x) (list_all p xs) (q x) (list_all q xs) ∙ ap (λ b. (p x && q x) && b) (all_and p q xs)
@@ -142,10 +137,6 @@ has_type-set items t =
 
 abbrev fit_both : Val × Val → (Ty → Bool) × (Ty → Bool)
 fit_both e = (fits e.0, fits e.1)
-
-regrouped : (a b c : Bool) → (a && (b && c)) ≡ ((a && b) && c)
-regrouped true b c = refl
-regrouped false b c = refl
 
 sound_entries : (es : List (Val × Val)) → list_all is_sound (flat es) ≡ list_all (λ e. is_sound e.0 && is_sound e.1) es
 sound_entries [] = refl
