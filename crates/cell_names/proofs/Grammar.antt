@@ -11,7 +11,7 @@ use Rattle.byte_fields.proofs.Digits.{wide8, wide32}
 use Rattle.byte_fields.proofs.Numbers.{number_reads}
 use Rattle.byte_fields.proofs.Lists.{chained_reads}
 use Rattle.value_core.specs.Leaves.{is_address}
-use Rattle.value_codec.proofs.Rows.{address_reads}
+use Rattle.value_codec.proofs.Rows.{any_address_reads}
 use Rattle.cell_names.specs.declared.cell.Cell.{Cell}
 use Rattle.cell_names.specs.declared.cell.Cell.TheVariants.{Balance}
 use Rattle.cell_names.specs.declared.mode.Mode.{Mode}
@@ -35,7 +35,7 @@ cell_back (Balance address) good = ((refl, good), refl)
 pub cell_reads : Reads cell spell_cell IsCell
 cell_reads =
     made_reads (λ (p : ℕ × List ℕ). Balance p.1) (λ c. (0, address_of c)) spell_cell IsCell
-    (λ p good. (ap (λ (k : ℕ). to_be_bytes w8 k ++ p.1) good.0, good.1)) cell_back (both_reads kind_reads address_reads)
+    (λ p good. (ap (λ (k : ℕ). to_be_bytes w8 k ++ p.1) good.0, good.1)) cell_back (both_reads kind_reads any_address_reads)
 
 -- ---- modes
 

@@ -80,6 +80,11 @@ address_reads = reads_as (λ bytes. bytes) (λ bytes. IsTrue (is_lawful_address 
     (run, one))
     (checked_reads is_address (byte_run_reads 22))
 
+-- the same where the text alone is asked to be an address; what is read is bytes in any case
+pub any_address_reads : Reads address (λ bytes. bytes) (λ bytes. IsTrue (is_address bytes))
+any_address_reads = reads_as (λ bytes. bytes) (λ bytes. IsTrue (is_address bytes)) (λ bytes good. (refl, good.1))
+    (λ bytes is. (eqb-true (length bytes) 22 (first_true (length bytes == 22) _ is), is)) (checked_reads is_address (run_reads 22))
+
 -- ---- lists, sets and maps
 
 map-same : (vs : List Val) → map (λ v. v) vs ≡ vs

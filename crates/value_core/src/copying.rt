@@ -3,7 +3,7 @@
 ghost use Rattle.std.specs.Prelude.{◌≡◌, IfOk};
 
 use crate::memory::NoMemory;
-use crate::val::{Emit, Val, left, operation, pair, right, some};
+use crate::val::{Emit, Val, comb, left, operation, pair, right, some};
 use sqlite_items::Items;
 use std::alloc::Global;
 
@@ -58,7 +58,6 @@ impl Emit {
 
 // The pair of the copies of two values; the first parts of a comb wait in a list for its last one.
 #[cycle(copying)]
-#[tactic(auto, using(crate::proofs::Combs::one_more_part))]
 fn copy_comb(alloc: Global, first: &Val, rest: &Val) -> Result<Val, NoMemory>
     ensures { IfOk result (λ v. v ≡ Val.Pair first.now rest.now) }
 {
@@ -69,11 +68,8 @@ fn copy_comb(alloc: Global, first: &Val, rest: &Val) -> Result<Val, NoMemory>
         left = next.get();
         right = behind.get();
     }
-    let mut comb = pair(alloc, left.copy(alloc)?, right.copy(alloc)?)?;
-    while let Some(part) = firsts.pop() {
-        comb = pair(alloc, part, comb)?;
-    }
-    Ok(comb)
+    let last = pair(alloc, left.copy(alloc)?, right.copy(alloc)?)?;
+    comb(alloc, firsts, last)
 }
 
 #[cycle(copying)]

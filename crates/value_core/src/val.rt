@@ -1,6 +1,7 @@
 //! Values, and the operations that a contract emits.
 
 ghost use Rattle.std.specs.Prelude.{◌≡◌, ◌≢◌, IfErr, IfOk, List, OnErr};
+ghost use Rattle.value_core.specs.Combs.{comb};
 ghost use Rattle.value_core.specs.declared.val.Val.{Val};
 
 use crate::address::Address;
@@ -133,6 +134,18 @@ pub fn pair(alloc: Global, a: Val, b: Val) -> Result<Val, NoMemory>
     ensures { IfOk result (λ v. v ≡ Val.Pair a b) }
 {
     Ok(Val::Pair(Boxed::new(alloc, a)?, Boxed::new(alloc, b)?))
+}
+
+/// The pairs of a flat `Pair`: each of the first parts in a pair with all that stands behind it.
+#[tactic(auto, using(crate::proofs::Combs::one_more_part))]
+pub fn comb(alloc: Global, mut firsts: Items<Val>, last: Val) -> Result<Val, NoMemory>
+    ensures { IfOk result (λ v. v ≡ comb Val.Pair firsts last) }
+{
+    let mut made = last;
+    while let Some(part) = firsts.pop() {
+        made = pair(alloc, part, made)?;
+    }
+    Ok(made)
 }
 
 /// An operation as a value.

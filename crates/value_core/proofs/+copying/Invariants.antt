@@ -1,8 +1,8 @@
 -- What has been copied so far is the front of the list, and of a pair the first parts of the comb.
-use Rattle.std.proofs.Common.{◌≡◌, ◌≤◌, ◌+◌, ◌*◌, length, max, take}
+use Rattle.std.proofs.Common.{◌≡◌, ◌≤◌, ◌+◌, ◌*◌, max, take}
 use Rattle.value_core.specs.declared.val.Val.{size-Val}
 use Rattle.value_core.specs.declared.val.Val.TheVariants as variant
-use Rattle.value_core.proofs.Combs.{comb}
+use Rattle.value_core.specs.Combs.{comb}
 use Rattle.value_core.proofs.+copying.Given as goal
 
 abbrev pub invariant-copying::copy_all-loop-item : goal.invariant-copying::copy_all-loop-item
@@ -16,12 +16,6 @@ invariant-copying::copy_comb-loop-right l =
     (variant.Pair l.fn.first l.fn.rest ≡ comb variant.Pair l.firsts (variant.Pair l.left l.right))
     × (size-Val l.left ≤ max (size-Val l.fn.first) (size-Val l.fn.rest))
     × (size-Val l.right ≤ max (size-Val l.fn.first) (size-Val l.fn.rest))
-
-abbrev pub invariant-copying::copy_comb-loop-part : goal.invariant-copying::copy_comb-loop-part
-invariant-copying::copy_comb-loop-part l = variant.Pair l.fn.first l.fn.rest ≡ comb variant.Pair l.firsts l.comb
-
-abbrev pub decreases-copying::copy_comb-loop-part : goal.decreases-copying::copy_comb-loop-part
-decreases-copying::copy_comb-loop-part l = length l.firsts
 
 abbrev pub decreases-val::Val::copy : goal.decreases-val::Val::copy
 decreases-val::Val::copy l = 2 * size-Val l.self.now

@@ -2,7 +2,7 @@
 use Rattle.std.proofs.Common.{◌≡◌, ◌≤◌, ◌+◌, ◌*◌, length, max}
 use Rattle.value_core.specs.declared.ty.Ty.{size-Ty}
 use Rattle.value_core.specs.declared.ty.Ty.TheVariants as kind
-use Rattle.value_core.proofs.Combs.{comb}
+use Rattle.value_core.specs.Combs.{comb}
 use Rattle.value_core.proofs.ty.+copying_types.Given as goal
 
 abbrev pub invariant-copy_comb-loop-right : goal.invariant-copy_comb-loop-right
