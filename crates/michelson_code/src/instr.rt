@@ -3,16 +3,6 @@
 use sqlite_items::Items;
 use value_core::{Name, Ty, Val};
 
-// The table of forms, where c and d are bodies:
-// cost 1: DROP, DROP n, DUP, DUP n, SWAP, DIG n, DUG n, UNIT, PAIR, PAIR n, UNPAIR, UNPAIR n,
-//   CAR, CDR, SOME, NONE t, LEFT t, RIGHT t, NIL t, CONS, CAST t, RENAME
-// cost 2: PUSH t v, DIP c, DIP n c, IF c d, IF_NONE c d, IF_LEFT c d, IF_CONS c d, LOOP c,
-//   LOOP_LEFT c, ITER c, MAP c, EMPTY_SET t, EMPTY_MAP k v, FAILWITH
-// cost 3: ADD, SUB, SUB_MUTEZ, NEG, ABS, ISNAT, INT, LSL, LSR, AND, OR, XOR, NOT, EQ, NEQ, LT,
-//   GT, LE, GE, SIZE, AMOUNT, SENDER, SOURCE, SELF_ADDRESS, NOW, LEVEL, SELF %e, ADDRESS
-// cost 5: COMPARE, MUL, EDIV, CONCAT
-// cost 10: MEM, GET, UPDATE, GET_AND_UPDATE, SHA256, BALANCE, CONTRACT %e t, TRANSFER_TOKENS
-
 /// An instruction. Its fields stand in the order in which the form is written: a number, a type,
 /// data, the name of an entry or none, a body.
 #[derive(Debug, Drop)]
