@@ -1,8 +1,8 @@
 -- What a validation means: by what its files hold, the status, the text that is printed, and the files that are written.
 use Rattle.std.specs.Prelude.{◌≡◌, ℕ, List, [], ◌∷◌, length, codes, nat_lt, if◌then◌else◌, Option, Some, None, Result, Ok, Err}
 use Rattle.std.specs.FinMap.{insert}
-use Rattle.cell_names.specs.declared.fault.FormatFault.{FormatFault}
-use Rattle.cell_names.specs.declared.fault.FormatFault.TheVariants as faults
+use Rattle.byte_fields.specs.Stops.{Stop}
+use Rattle.byte_fields.specs.Stops as stops
 use Rattle.edge_io.specs.Outside.{Held, most_bytes}
 use Rattle.ledger_state.specs.Ledger.{Ledger}
 use Rattle.ledger_state.specs.Spelling.{spelling}
@@ -54,10 +54,9 @@ answer_of c (Accepted s) =
     else done c (report.accepted_line s) (spelling s)
 
 -- the answer to a state that is read so, and to the bytes of a block
-abbrev pub IsJudgedOn : Validation → Result Ledger FormatFault → List ℕ → Answer → Type 0
-IsJudgedOn c (Err (faults.At p)) block answer = answer ≡ bad_input c.state (report.malformed p.0)
-IsJudgedOn c (Err (faults.NotYet p)) block answer = answer ≡ bad_input c.state (report.not_yet p)
-IsJudgedOn c (Err faults.NoMemory) block answer = ⊥
+abbrev pub IsJudgedOn : Validation → Result Ledger Stop → List ℕ → Answer → Type 0
+IsJudgedOn c (Err (stops.Stopped stops.Faulty p)) block answer = answer ≡ bad_input c.state (report.malformed p)
+IsJudgedOn c (Err (stops.Stopped stops.NotYet p)) block answer = answer ≡ bad_input c.state (report.not_yet p)
 IsJudgedOn c (Ok s) block answer = (v : Verdict) × IsVerdict s block v × (answer ≡ answer_of c v)
 
 -- the answer to the bytes of a state and of a block

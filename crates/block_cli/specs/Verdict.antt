@@ -1,8 +1,8 @@
 -- The verdict on a block, by the state that it stands on: the first line of the table that holds.
 use Rattle.std.specs.Prelude.{◌≡◌, ◌≢◌, ℕ, ◌+◌, ◌<◌, ◌≤◌, List, length, Result, Ok, Err, slice_get}
 use Rattle.cell_names.specs.declared.cell.Cell.{Cell}
-use Rattle.cell_names.specs.declared.fault.FormatFault.{FormatFault}
-use Rattle.cell_names.specs.declared.fault.FormatFault.TheVariants as faults
+use Rattle.byte_fields.specs.Stops.{Stop}
+use Rattle.byte_fields.specs.Stops as stops
 use Rattle.ledger_state.specs.Ledger.{Ledger}
 use Rattle.block_codec.specs.Block.{BlockView}
 use Rattle.block_codec.specs.Reading.{block_of}
@@ -67,11 +67,10 @@ IsVerdictOn s b StateDiffers = IsOrdered s b × TellsFirst (length b.ops) s b ×
 IsVerdictOn s b (Accepted after) = IsOrdered s b × TellsFirst (length b.ops) s b × (b.state ≡ digest_of (serial_run s b).balances) × (after ≡ state_after s b)
 
 -- the verdict on bytes that are read so
-abbrev pub IsVerdictOf : Ledger → Result BlockView FormatFault → Verdict → Type 0
+abbrev pub IsVerdictOf : Ledger → Result BlockView Stop → Verdict → Type 0
 IsVerdictOf s (Ok b) v = IsVerdictOn s b v
-IsVerdictOf s (Err (faults.At p)) v = v ≡ Malformed p.0
-IsVerdictOf s (Err (faults.NotYet p)) v = v ≡ NotYet p
-IsVerdictOf s (Err faults.NoMemory) v = ⊥
+IsVerdictOf s (Err (stops.Stopped stops.Faulty p)) v = v ≡ Malformed p
+IsVerdictOf s (Err (stops.Stopped stops.NotYet p)) v = v ≡ NotYet p
 
 -- the verdict on the bytes of a block
 abbrev pub IsVerdict : Ledger → List ℕ → Verdict → Type 0

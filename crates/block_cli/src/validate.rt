@@ -1,6 +1,7 @@
 //! Validating a block: `validate STATE BLOCK NEXT WORKERS`.
 ghost use Rattle.std.specs.Prelude.{◌≡◌, IfOk, Ok};
-ghost use Rattle.cell_names.specs.Answers.{IsTold};
+ghost use Rattle.byte_fields.specs.Told.{AnswersUnlessFull};
+ghost use Rattle.cell_names.specs.Stops.{format_fault};
 ghost use Rattle.edge_io.specs.Outside.{GoesOn};
 ghost use Rattle.ledger_state.specs.Reading.{ledger_of};
 ghost use Rattle.block_cli.specs.Verdict.{Accepted};
@@ -73,7 +74,7 @@ fn read_both<F: Files>(
 
 /// The state that bytes spell. The bytes are let go here.
 fn parsed(alloc: Global, bytes: Vec<u8>) -> Result<State, FormatFault>
-    ensures { IsTold result (ledger_of bytes.items) }
+    ensures { AnswersUnlessFull format_fault (λ x. x) result (ledger_of bytes.items) }
 {
     read_state(alloc, &bytes)
 }

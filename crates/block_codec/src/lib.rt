@@ -4,6 +4,7 @@
 //! publishes up to 512 operations, and of each the earlier operations that it is joined to, the
 //! cells that it touched, with their modes, and its receipt.
 //!
+//! - `laws`: what is true of blocks and their bytes.
 //! - `transfer`: transfers and receipts, plain data. Begin here.
 //! - `block`: the block, whose parts have a place for each operation.
 //! - `writer`, `reader`: its bytes, for which `specs/Spelling.antt` has the one spelling of each
@@ -16,6 +17,7 @@
 
 mod block;
 mod fields;
+mod laws;
 mod reader;
 #[cfg(test)]
 mod tests;
@@ -25,6 +27,7 @@ mod writer;
 pub use block::Block;
 pub use byte_fields::At;
 pub use cell_names::FormatFault;
+pub use laws::blocks_have_one_spelling;
 pub use reader::read_block;
 pub use transfer::{Receipt, Transfer};
 pub use writer::write_block;

@@ -4,3 +4,4 @@ pub mod Noted
 pub mod Blocked
 pub mod Soonest
 pub mod Told
+pub mod Deciding

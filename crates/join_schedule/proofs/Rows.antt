@@ -76,7 +76,7 @@ either true b h f g = f refl
 either false b h f g = g h
 
 -- how one operation is before another
-direct_or_through : (joins : List (List ℕ)) (i n : ℕ) → IsBefore joins i n → Contains (joins_of joins n) i ⊎ ((k : ℕ) × IsBefore joins i k × Contains (joins_of joins n) k)
+pub direct_or_through : (joins : List (List ℕ)) (i n : ℕ) → IsBefore joins i n → Contains (joins_of joins n) i ⊎ ((k : ℕ) × IsBefore joins i k × Contains (joins_of joins n) k)
 direct_or_through joins i n (Joined j h) = inl h
 direct_or_through joins i n (Through k j b h) = inr (k, b, h)
 

@@ -4,6 +4,7 @@
 //! joined to it, or to an operation that it is before. The joins cover the footprints if of any two
 //! operations whose footprints conflict the earlier one is before the later one.
 //!
+//! - `laws`: what is true of lists of joins and of footprints.
 //! - `joins`: the published lists. Begin here.
 //! - `bad`: the first list that is no list of joins.
 //! - `before`: for each operation the set of those before it, built once.
@@ -16,11 +17,13 @@
 mod bad;
 mod before;
 mod joins;
+mod laws;
 mod toucher;
 mod unordered;
 
 pub use bad::bad_join;
 pub use joins::Joins;
+pub use laws::{joins_cover_or_one_is_unordered, lists_are_joins_or_one_is_bad};
 pub use unordered::first_unordered;
 
 #[cfg(test)]

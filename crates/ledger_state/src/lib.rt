@@ -5,6 +5,7 @@
 //! amounts together stay below 2^63. Nothing changes a state in place: `with_balances` makes the
 //! next one in one pass over the holdings and the changes.
 //!
+//! - `laws`: what is true of ledgers and their files.
 //! - `state`: `State` and its calls. Begin there. `holding`: what one account has.
 //! - `merge`: where an address stands, and holdings with changes put in.
 //! - `writer`, `reader`: the file of a ledger (docs/FORMATS.md, "State file").
@@ -15,6 +16,7 @@
 #![tactic(auto)]
 
 mod holding;
+mod laws;
 mod merge;
 mod reader;
 mod state;
@@ -25,6 +27,7 @@ mod writer;
 pub use byte_fields::At;
 pub use cell_names::{FormatFault, Head, NoMemory};
 pub use holding::Holding;
+pub use laws::ledgers_have_one_spelling;
 pub use reader::read_state;
 pub use state::State;
 pub use writer::write_state;

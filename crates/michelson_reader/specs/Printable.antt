@@ -7,7 +7,7 @@ use Rattle.value_core.specs.declared.ty.Ty.TheOpen.{Ty-F}
 use Rattle.value_core.specs.declared.ty.Ty.TheFolds.{fold-Ty}
 use Rattle.value_core.specs.Kinds.{is_passable}
 use Rattle.value_core.specs.Leaves.{is_name}
-use Rattle.micheline_text.specs.Again.{IsPrintable}
+use Rattle.micheline_text.specs.Fits.{IsPrintable}
 use Rattle.michelson_code.specs.declared.instr.Instr.{Instr}
 use Rattle.michelson_code.specs.declared.instr.Instr.TheFolds.{fold-Instr}
 use Rattle.michelson_code.specs.declared.script.Script.{Script}
