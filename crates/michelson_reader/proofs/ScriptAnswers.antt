@@ -15,7 +15,7 @@ use Rattle.michelson_reader.specs.Answers.{Gives, IsReadFault}
 use Rattle.michelson_reader.specs.Returned.{Answers, Refuses, of_text}
 use Rattle.michelson_reader.specs.Script.{AreSections, IsScriptOf, unbraced}
 use Rattle.michelson_reader.specs.ScriptFaults.{script_read}
-use Rattle.michelson_reader.proofs.Laws.{script-read}
+use Rattle.michelson_reader.proofs.ReadLaws.{script-read}
 use Rattle.michelson_reader.proofs.NodeFaults.{no_text_fault}
 use Rattle.michelson_reader.proofs.ReadLemmas.{same_read}
 

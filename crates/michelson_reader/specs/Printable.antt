@@ -14,7 +14,7 @@ use Rattle.michelson_code.specs.declared.script.Script.{Script}
 use Rattle.michelson_code.specs.declared.script.Side.TheVariants.{Left, Right}
 use Rattle.michelson_reader.specs.Code.{is_count, is_pushed}
 use Rattle.michelson_reader.specs.Entries.{Entry, Path}
-use Rattle.michelson_reader.specs.Forms.{Form, Operand, ANumber, AType, SomeData, ACode, form_at}
+use Rattle.michelson_code.specs.Forms.{Form, Operand, ANumber, AType, SomeData, ACode, form_at}
 use Rattle.michelson_reader.specs.Printed.{code_section, parameter_section, storage_section}
 
 -- one level of a type, whose parts say which ways lead to a node of theirs through `or` alone
