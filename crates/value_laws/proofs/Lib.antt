@@ -1,0 +1,2 @@
+pub mod SoundnessEquations
+pub mod PlainnessEquations

@@ -1,0 +1,14 @@
+//! Equations of values: what each definition over values says of each kind of value.
+//!
+//! The definitions stand in `value_core`, most of them said once for one level of a value. Here
+//! each has an equation for each kind of value, so that a proof about pairs or big maps cites one
+//! clause and never looks at levels. Together with the laws of `value_core` every kind has one.
+//!
+//! - `soundness`: which values are sound, and which are plain. Begin here.
+//!
+//! Each law is the clause of a function that does nothing, and nothing here takes memory.
+#![tactic(auto)]
+
+mod soundness;
+
+pub use soundness::{plainness_goes_by_parts, soundness_goes_by_parts};
