@@ -1,2 +1,5 @@
 pub mod SoundnessEquations
 pub mod PlainnessEquations
+pub mod DepthEquations
+pub mod TypeDepthEquations
+pub mod SizeEquations

@@ -5,10 +5,13 @@
 //! clause and never looks at levels. Together with the laws of `value_core` every kind has one.
 //!
 //! - `soundness`: which values are sound, and which are plain. Begin here.
+//! - `measures`: how deep values and types are, and how large values.
 //!
 //! Each law is the clause of a function that does nothing, and nothing here takes memory.
 #![tactic(auto)]
 
+mod measures;
 mod soundness;
 
+pub use measures::{depth_goes_by_parts, depth_of_types_goes_by_parts, sizes_go_by_parts};
 pub use soundness::{plainness_goes_by_parts, soundness_goes_by_parts};
