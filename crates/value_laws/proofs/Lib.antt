@@ -3,3 +3,4 @@ pub mod PlainnessEquations
 pub mod DepthEquations
 pub mod TypeDepthEquations
 pub mod SizeEquations
+pub mod OrderEquations

@@ -6,12 +6,15 @@
 //!
 //! - `soundness`: which values are sound, and which are plain. Begin here.
 //! - `measures`: how deep values and types are, and how large values.
+//! - `order`: values of two tags stand as the tags do, others as what they hold.
 //!
 //! Each law is the clause of a function that does nothing, and nothing here takes memory.
 #![tactic(auto)]
 
 mod measures;
+mod order;
 mod soundness;
 
 pub use measures::{depth_goes_by_parts, depth_of_types_goes_by_parts, sizes_go_by_parts};
+pub use order::order_goes_by_tag_and_parts;
 pub use soundness::{plainness_goes_by_parts, soundness_goes_by_parts};
