@@ -1,0 +1,6 @@
+pub mod SoundnessEquations
+pub mod PlainnessEquations
+pub mod DepthEquations
+pub mod TypeDepthEquations
+pub mod SizeEquations
+pub mod OrderEquations
