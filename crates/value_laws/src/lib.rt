@@ -6,7 +6,8 @@
 //!
 //! - `soundness`: which values are sound, and which are plain. Begin here.
 //! - `measures`: how deep values and types are, and how large values.
-//! - `order`: values of two tags stand as the tags do, others as what they hold.
+//! - `order`: the tag of each kind; values of two tags stand as the tags do, others as what they
+//!   hold.
 //! - `types`: which type a value without typed parts has, and what values of the types of contracts
 //!   and operations are.
 //!
@@ -19,6 +20,6 @@ mod soundness;
 mod types;
 
 pub use measures::{depth_goes_by_parts, depth_of_types_goes_by_parts, sizes_go_by_parts};
-pub use order::order_goes_by_tag_and_parts;
+pub use order::{order_goes_by_tag_and_parts, tags_go_by_kind};
 pub use soundness::{plainness_goes_by_parts, soundness_goes_by_parts};
 pub use types::{typed_calls_have_their_form, types_go_by_kind};

@@ -1,6 +1,6 @@
-//! The order of values of each kind, and of values of two kinds.
+//! The tag of each kind of value, and the order of values of two tags and of one kind.
 
-ghost use Rattle.std.specs.Prelude.{◌≡◌, ◌≢◌, Bool, List, ℕ, ℤ};
+ghost use Rattle.std.specs.Prelude.{◌≡◌, ◌≢◌, Bool, List, if◌then◌else◌, ℕ, ℤ};
 ghost use Rattle.std.specs.Cmp.Lexicographic.{slice_cmp};
 ghost use Rattle.std.specs.Ordering.{bool_cmp, int_cmp, nat_cmp, ordering_then};
 ghost use Rattle.std.specs.declared.cmp.Ordering.TheVariants as than;
@@ -10,6 +10,31 @@ ghost use Rattle.value_core.specs.declared.val.Emit.{Emit};
 ghost use Rattle.value_core.specs.declared.val.Val.{Val};
 ghost use Rattle.value_core.specs.declared.val.Val.TheVariants as value;
 ghost use Rattle.value_core.specs.declared.val.Val.TheViews.{out-Val};
+
+/// A kind has a tag of its own, from 0 for Unit to 20 for operations; true and false have one each.
+pub fn tags_go_by_kind()
+    ensures unit { tag_of (out-Val value.Unit) ≡ 0 }
+    ensures bool { (b : Bool) → tag_of (out-Val (value.Bool b)) ≡ (if b then 2 else 1) }
+    ensures int { (n : ℤ) → tag_of (out-Val (value.Int n)) ≡ 3 }
+    ensures nat { (n : ℤ) → tag_of (out-Val (value.Nat n)) ≡ 4 }
+    ensures mutez { (n : ℕ) → tag_of (out-Val (value.Mutez n)) ≡ 5 }
+    ensures time { (n : ℤ) → tag_of (out-Val (value.Time n)) ≡ 6 }
+    ensures text { (text : List ℕ) → tag_of (out-Val (value.Text text)) ≡ 7 }
+    ensures bytes { (bytes : List ℕ) → tag_of (out-Val (value.Bytes bytes)) ≡ 8 }
+    ensures addr { (address : List ℕ) → tag_of (out-Val (value.Addr address)) ≡ 9 }
+    ensures nothing { tag_of (out-Val value.Nothing) ≡ 10 }
+    ensures some { (v : Val) → tag_of (out-Val (value.Some v)) ≡ 11 }
+    ensures left { (v : Val) → tag_of (out-Val (value.Left v)) ≡ 12 }
+    ensures right { (v : Val) → tag_of (out-Val (value.Right v)) ≡ 13 }
+    ensures pair { (a b : Val) → tag_of (out-Val (value.Pair a b)) ≡ 14 }
+    ensures list { (items : List Val) → tag_of (out-Val (value.List items)) ≡ 15 }
+    ensures set { (items : List Val) → tag_of (out-Val (value.Set items)) ≡ 16 }
+    ensures map { (entries : List (Val × Val)) → tag_of (out-Val (value.Map entries)) ≡ 17 }
+    ensures big_map { (place version : ℕ) → tag_of (out-Val (value.BigMap place version)) ≡ 18 }
+    ensures contract { (address entry : List ℕ) →
+        tag_of (out-Val (value.Contract address entry)) ≡ 19 }
+    ensures operation { (emit : Emit) → tag_of (out-Val (value.Operation emit)) ≡ 20 }
+{}
 
 /// Values of two tags stand as their tags do; values of one tag as what they hold, from the left.
 pub fn order_goes_by_tag_and_parts()
