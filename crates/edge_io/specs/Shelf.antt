@@ -1,5 +1,5 @@
 -- Files in memory: what they hold, and what each call makes of them.
-use Rattle.std.specs.Prelude.{◌≡◌, ℕ, ◌==◌, ◌||◌, max, Bool, true, false, List, [], length, Some, is_none, Result, Ok, Err, refl}
+use Rattle.std.specs.Prelude.{◌≡◌, ℕ, ◌==◌, ◌||◌, ◌&&◌, max, Bool, true, false, List, [], length, Some, is_none, Result, Ok, Err, refl}
 use Rattle.std.specs.Option.{option_map, unwrap_or}
 use Rattle.std.specs.List.{list_any}
 use Rattle.std.specs.Global.{Vec}
@@ -88,12 +88,12 @@ marks_read m (Err ends.NoMemory) = m
 abbrev pub marks_unwritten : Marks → Marks
 marks_unwritten m = record m { write_faults = next m.write_faults }
 
--- a read fails exactly where it is to, want of memory aside
-abbrev pub FailsWhere : Bool → Result (Vec ℕ) ReadEnd → Type 0
-FailsWhere due (Ok v) = due ≡ false
-FailsWhere due (Err ends.Failed) = due ≡ true
-FailsWhere due (Err ends.TooLong) = due ≡ false
-FailsWhere due (Err ends.NoMemory) = Unit {0}
+-- a read fails exactly where it is to; one that is to fail takes memory only for a name that has no marks yet
+abbrev pub FailsWhere : Bool → Bool → Result (Vec ℕ) ReadEnd → Type 0
+FailsWhere due known (Ok v) = due ≡ false
+FailsWhere due known (Err ends.Failed) = due ≡ true
+FailsWhere due known (Err ends.TooLong) = due ≡ false
+FailsWhere due known (Err ends.NoMemory) = (due && known) ≡ false
 
 -- the next read of the name is to fail: its number is due, or the name isn't there
 abbrev pub read_due : Shelf → List ℕ → Bool

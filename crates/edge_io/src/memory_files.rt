@@ -1,5 +1,5 @@
 //! Files in memory, which tell their contents and fail where they are told to.
-ghost use Rattle.std.specs.Prelude.{◌≡◌, ◌≢◌, ◌∷◌, ◌++◌, [], ℕ, List, length, is_err, OnOk, OnErr};
+ghost use Rattle.std.specs.Prelude.{◌≡◌, ◌≢◌, ◌∷◌, ◌++◌, [], ℕ, List, length, is_err, is_some, OnOk, OnErr};
 ghost use Rattle.std.specs.Option.{option_copied};
 ghost use Rattle.std.specs.FinMap as map;
 ghost use Rattle.edge_io.specs.Outside.{HasRoom, SameCounts, Reads, MakesRoom, Writes};
@@ -95,7 +95,7 @@ impl Files for MemFiles {
 
     fn read(&mut self, alloc: Global, name: &str) -> Result<Vec<u8>, ReadEnd>
         ensures reads { Reads (outside_of self.old) name.now result (outside_of self.new) }
-        ensures fails { FailsWhere (read_due self.old name.now) result }
+        ensures fails { FailsWhere (read_due self.old name.now) (is_some (map.get self.old.marked name.now)) result }
         ensures after { self.new ≡ after_read self.old name.now result }
         ensures others { (q : List ℕ) → q ≢ name.now → SameCounts (outside_of self.old) (outside_of self.new) q }
     {

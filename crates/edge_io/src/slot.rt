@@ -1,5 +1,5 @@
 //! One name in memory: its file, its room and its counts.
-ghost use Rattle.std.specs.Prelude.{◌≡◌, ◌<◌, ◌≤◌, ◌||◌, length, is_none, None, Some, IfOk, IsErrOf, IsSomeAnd, OnOk, OnErr};
+ghost use Rattle.std.specs.Prelude.{◌≡◌, ◌<◌, ◌≤◌, ◌||◌, length, is_none, true, None, Some, IfOk, IsErrOf, IsSomeAnd, OnOk, OnErr};
 ghost use Rattle.std.specs.Option.{option_copied};
 ghost use Rattle.std.specs.Str.{bytes_eq};
 ghost use Rattle.edge_io.specs.Outside.{most_bytes};
@@ -78,7 +78,7 @@ impl Slot {
 
     /// The bytes of the file, unless this read is to fail.
     pub fn read(&mut self, alloc: Global, fails: bool) -> Result<Vec<u8>, ReadEnd>
-        ensures fails { FailsWhere (fails || is_none self.old.file) result }
+        ensures fails { FailsWhere (fails || is_none self.old.file) true result }
         ensures short { IfOk result (λ v. length v.items ≤ most_bytes) }
         ensures bytes { IfOk result (λ v. self.old.file ≡ Some v.items) }
         ensures long { IsErrOf result too_long → IsSomeAnd self.old.file (λ b. most_bytes < length b) }

@@ -1,5 +1,5 @@
 //! The slots of all names, and what a call does to the one of its name.
-ghost use Rattle.std.specs.Prelude.{◌≡◌, ◌<◌, ◌≤◌, ◌||◌, length, is_none, is_err, None, Some, IfOk, IfSome, IfNone, IsErrOf, IsSomeAnd, OnOk, OnErr};
+ghost use Rattle.std.specs.Prelude.{◌≡◌, ◌<◌, ◌≤◌, ◌||◌, length, is_none, is_some, is_err, None, Some, IfOk, IfSome, IfNone, IsErrOf, IsSomeAnd, OnOk, OnErr};
 ghost use Rattle.std.specs.Option.{option_copied};
 ghost use Rattle.std.specs.FinMap as map;
 ghost use Rattle.edge_io.specs.Outside.{most_bytes};
@@ -55,7 +55,8 @@ pub fn read(
     name: &str,
     fails: bool,
 ) -> Result<Vec<u8>, ReadEnd>
-    ensures fails { FailsWhere (fails || is_none (map.get (held_of slots.old.items) name.now)) result }
+    ensures fails { FailsWhere (fails || is_none (map.get (held_of slots.old.items) name.now))
+        (is_some (map.get (marked_of slots.old.items) name.now)) result }
     ensures short { IfOk result (λ v. length v.items ≤ most_bytes) }
     ensures bytes { IfOk result (λ v. map.get (held_of slots.old.items) name.now ≡ Some v.items) }
     ensures long { IsErrOf result too_long → IsSomeAnd (map.get (held_of slots.old.items) name.now) (λ b. most_bytes < length b) }
