@@ -1,7 +1,7 @@
 -- An answer writes each file of its command under Done, and none under any other status.
 use Rattle.std.proofs.Common.{◌≡◌, ℕ, List, [], ◌∷◌, Option, Some, None, Result, Ok, Err, refl, sym, subst, inl, inr}
-use Rattle.cell_names.specs.declared.fault.FormatFault.{FormatFault}
-use Rattle.cell_names.specs.declared.fault.FormatFault.TheVariants as faults
+use Rattle.byte_fields.specs.Stops.{Stop}
+use Rattle.byte_fields.specs.Stops as stops
 use Rattle.edge_io.specs.Outside.{Outside}
 use Rattle.ledger_state.specs.Ledger.{Ledger}
 use Rattle.ledger_state.specs.Reading.{ledger_of}
@@ -21,11 +21,10 @@ by_verdict : (state block next : Name) (workers : ℕ) (v : Verdict) → WritesU
 by_verdict state block next workers (Refused why) = refl
 by_verdict state block next workers (Accepted s) = refl
 
-by_state : (state block next : Name) (workers : ℕ) (read : Result Ledger FormatFault) (bytes : List ℕ) (answer : Answer) → ValidatesOn state next read bytes answer → WritesUnder (Validate state block next workers) answer.status answer.written
+by_state : (state block next : Name) (workers : ℕ) (read : Result Ledger Stop) (bytes : List ℕ) (answer : Answer) → ValidatesOn state next read bytes answer → WritesUnder (Validate state block next workers) answer.status answer.written
 by_state state block next workers (Ok s) bytes answer (v, is, e) = is_one (Validate state block next workers) answer (answer_to next v) e (by_verdict state block next workers v)
-by_state state block next workers (Err (faults.At p)) bytes answer e = is_one (Validate state block next workers) answer (bad_input state (malformed p.0)) e refl
-by_state state block next workers (Err (faults.NotYet p)) bytes answer e = is_one (Validate state block next workers) answer (bad_input state (not_yet p)) e refl
-by_state state block next workers (Err faults.NoMemory) bytes answer h = absurd h
+by_state state block next workers (Err (stops.Stopped stops.Faulty p)) bytes answer e = is_one (Validate state block next workers) answer (bad_input state (malformed p)) e refl
+by_state state block next workers (Err (stops.Stopped stops.NotYet p)) bytes answer e = is_one (Validate state block next workers) answer (bad_input state (not_yet p)) e refl
 
 pub all_or_nothing : (c : Command) (contents : List (List ℕ)) (answer : Answer) → Means c contents answer → WritesUnder c answer.status answer.written
 all_or_nothing (Validate state block next workers) (spelt ∷ bytes ∷ []) answer means = by_state state block next workers (ledger_of spelt) bytes answer means

@@ -1,5 +1,5 @@
--- Every block has a verdict: each line of the table holds, or it doesn't.
-use Rattle.std.proofs.Common.{◌≡◌, ℕ, zero, suc, ◌+◌, ◌<◌, Bool, true, false, List, [], ◌∷◌, length, Option, Some, None, refl, sym, ap, ◌∙◌, arith, inl, inr, ◌⊎◌}
+-- A state and bytes have a verdict, since each line of the table holds or it doesn't; and so contents have an answer.
+use Rattle.std.proofs.Common.{◌≡◌, ℕ, zero, suc, ◌+◌, ◌<◌, Bool, true, false, List, [], ◌∷◌, length, Option, Some, None, Result, Ok, Err, refl, sym, ap, ◌∙◌, arith, inl, inr, ◌⊎◌}
 use Rattle.std.specs.Prelude.{IsTrue, slice_get}
 use Rattle.std.specs.List.{AllByRecursion}
 use Rattle.std.proofs.lemmas.Bool.{cases_lt}
@@ -14,12 +14,23 @@ use Rattle.cell_names.specs.Spelling.{IsFootprint}
 use Rattle.join_schedule.specs.Joins.{AreJoins, IsFirstBad}
 use Rattle.join_schedule.specs.Cover.{footprint_of, Cover, IsFirstUnordered}
 use Rattle.join_schedule.proofs.Deciding.{Either, Exception, every_below, either_equal, joins_or_bad, cover_or_first}
+use Rattle.byte_fields.specs.Laws.{IsBytes}
+use Rattle.byte_fields.specs.Stops.{Stop}
+use Rattle.byte_fields.specs.Stops as stops
 use Rattle.ledger_state.specs.Ledger.{Ledger}
+use Rattle.ledger_state.specs.Reading.{ledger_of}
+use Rattle.block_codec.specs.Spelling.{spelling}
+use Rattle.block_codec.specs.Reading.{block_of}
+use Rattle.block_cli.specs.Commands.{Name, Validate}
+use Rattle.block_cli.specs.Report.{malformed, not_yet}
+use Rattle.block_cli.specs.Answers.{Answer, bad_input}
+use Rattle.block_cli.specs.Validating.{answer_to, ValidatesOn}
+use Rattle.block_cli.specs.Meaning.{ContentsHaveAnAnswer}
 use Rattle.block_codec.specs.Block.{BlockView, IsBlock}
 use Rattle.block_codec.specs.declared.transfer.Receipt.{Receipt}
 use Rattle.state_digest.specs.Digest.{digest_of}
-use Rattle.block_cli.specs.declared.refusal.Refusal.TheVariants.{WrongParent, BadJoin, Unordered, FootprintDiffers, ReceiptDiffers, StateDiffers}
-use Rattle.block_cli.specs.Verdict.{Verdict, Refused, Accepted, StandsOn, IsOrdered, serial_run, SameFootprint, SameReceipt, TellsFirst, state_after, IsVerdictOn}
+use Rattle.block_cli.specs.declared.refusal.Refusal.TheVariants.{Malformed, NotYet, WrongParent, BadJoin, Unordered, FootprintDiffers, ReceiptDiffers, StateDiffers}
+use Rattle.block_cli.specs.Verdict.{Verdict, Refused, Accepted, StandsOn, IsOrdered, serial_run, SameFootprint, SameReceipt, TellsFirst, state_after, IsVerdictOn, IsVerdictOf, HaveAVerdict}
 
 -- ---- equality of what a block publishes
 
@@ -160,3 +171,27 @@ module _ (s : Ledger) (b : BlockView) (lawful : IsBlock b) where
   pub has_verdict : (v : Verdict) × IsVerdictOn s b v
   unfolding Told
   has_verdict = elim (either_stands s b) [ inl stands ↦ by_joins stands (joins_or_bad b.joins) | inr fails ↦ (Refused WrongParent, fails) ]
+
+-- ---- bytes, and the contents of files
+
+abbrev Reads : Type 0
+Reads = (bytes : List ℕ) (b : BlockView) → IsBytes bytes → block_of bytes ≡ Ok b → IsBlock b × (bytes ≡ spelling b)
+
+verdict_of_read : Reads → (s : Ledger) (bytes : List ℕ) → IsBytes bytes → (r : Result BlockView Stop) → block_of bytes ≡ r → (v : Verdict) × IsVerdictOf s r v
+verdict_of_read reads_block s bytes fits (Ok b) read = has_verdict s b (reads_block bytes b fits read).0
+verdict_of_read reads_block s bytes fits (Err (stops.Stopped stops.Faulty p)) read = (Refused (Malformed p), refl)
+verdict_of_read reads_block s bytes fits (Err (stops.Stopped stops.NotYet p)) read = (Refused (NotYet p), refl)
+
+pub verdict_there : Reads → HaveAVerdict
+verdict_there reads_block s bytes fits = verdict_of_read reads_block s bytes fits (block_of bytes) refl
+
+by_ledger : Reads → (state next : Name) (bytes : List ℕ) → IsBytes bytes → (r : Result Ledger Stop) → (answer : Answer) × ValidatesOn state next r bytes answer
+by_ledger reads_block state next bytes fits (Ok s) = let v = verdict_there reads_block s bytes fits in (answer_to next v.0, (v.0, v.1, refl))
+by_ledger reads_block state next bytes fits (Err (stops.Stopped stops.Faulty p)) = (bad_input state (malformed p), refl)
+by_ledger reads_block state next bytes fits (Err (stops.Stopped stops.NotYet p)) = (bad_input state (not_yet p), refl)
+
+pub answer_there : Reads → ContentsHaveAnAnswer
+answer_there reads_block (Validate state block next workers) (spelt ∷ bytes ∷ []) all fits = by_ledger reads_block state next bytes fits.1.0 (ledger_of spelt)
+answer_there reads_block (Validate state block next workers) [] all fits = absurd (omega arith)
+answer_there reads_block (Validate state block next workers) (x ∷ []) all fits = absurd (omega arith)
+answer_there reads_block (Validate state block next workers) (x ∷ y ∷ z ∷ zs) all fits = absurd (omega arith)

@@ -7,8 +7,8 @@ use Rattle.std.specs.Ordering.{is_gt, ordering_reverse}
 use Rattle.std.proofs.lemmas.Bool.{cases_order}
 use Rattle.cell_names.specs.declared.cell.Cell.{Cell}
 use Rattle.cell_names.specs.declared.mode.Mode.{Mode}
-use Rattle.cell_names.specs.declared.fault.FormatFault.{FormatFault}
-use Rattle.cell_names.specs.declared.fault.FormatFault.TheVariants as faults
+use Rattle.byte_fields.specs.Stops.{Stop}
+use Rattle.byte_fields.specs.Stops as stops
 use Rattle.cell_names.specs.Cells.{cell_cmp}
 use Rattle.cell_names.specs.CellOrder.{cell_cmp-total, cell_cmp-ties}
 use Rattle.join_schedule.specs.Joins.{AreJoins, IsFirstBad}
@@ -200,11 +200,10 @@ module _ (s : Ledger) (b : BlockView) where
   on_block : (v w : Verdict) → IsVerdictOn s b v → IsVerdictOn s b w → v ≡ w
   on_block v w p q = stand_line v w (lined v p) (lined w q)
 
-of_read : (s : Ledger) (read : Result BlockView FormatFault) (v w : Verdict) → IsVerdictOf s read v → IsVerdictOf s read w → v ≡ w
+of_read : (s : Ledger) (read : Result BlockView Stop) (v w : Verdict) → IsVerdictOf s read v → IsVerdictOf s read w → v ≡ w
 of_read s (Ok b) v w p q = on_block s b v w p q
-of_read s (Err (faults.At place)) v w p q = p ∙ sym q
-of_read s (Err (faults.NotYet place)) v w p q = p ∙ sym q
-of_read s (Err faults.NoMemory) v w p q = absurd p
+of_read s (Err (stops.Stopped stops.Faulty place)) v w p q = p ∙ sym q
+of_read s (Err (stops.Stopped stops.NotYet place)) v w p q = p ∙ sym q
 
 pub one_verdict : (s : Ledger) (bytes : List ℕ) (v w : Verdict) → IsVerdict s bytes v → IsVerdict s bytes w → v ≡ w
 one_verdict s bytes v w p q = of_read s (block_of bytes) v w p q

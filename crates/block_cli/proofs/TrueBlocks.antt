@@ -2,8 +2,8 @@
 use Rattle.std.proofs.Common.{◌≡◌, ℕ, zero, suc, ◌<◌, ◌≤◌, List, [], ◌∷◌, length, Some, Result, Ok, Err, refl, sym, ap, subst, ◌∙◌, arith}
 use Rattle.std.specs.Prelude.{slice_get}
 use Rattle.std.specs.List.{AllByRecursion}
-use Rattle.cell_names.specs.declared.fault.FormatFault.{FormatFault}
-use Rattle.cell_names.specs.declared.fault.FormatFault.TheVariants as faults
+use Rattle.byte_fields.specs.Stops.{Stop}
+use Rattle.byte_fields.specs.Stops as stops
 use Rattle.byte_fields.specs.Laws.{IsBytes}
 use Rattle.edge_io.specs.Outside.{most_bytes}
 use Rattle.ledger_state.specs.Ledger.{Ledger, Balances, AreBalances, supply}
@@ -69,11 +69,10 @@ record AcceptedBlock (s after : Ledger) (bytes : List ℕ) : Type 0 where
   true_on : IsTrueOn s block
   is : after ≡ state_after s block
 
-accepted_as : (s after : Ledger) (bytes : List ℕ) (r : Result BlockView FormatFault) → block_of bytes ≡ r → IsVerdictOf s r (Accepted after) → AcceptedBlock s after bytes
+accepted_as : (s after : Ledger) (bytes : List ℕ) (r : Result BlockView Stop) → block_of bytes ≡ r → IsVerdictOf s r (Accepted after) → AcceptedBlock s after bytes
 accepted_as s after bytes (Ok b) read v = record { block = b; read = read; true_on = v.0; is = v.1 }
-accepted_as s after bytes (Err (faults.At p)) read v = absurd cc
-accepted_as s after bytes (Err (faults.NotYet p)) read v = absurd cc
-accepted_as s after bytes (Err faults.NoMemory) read v = absurd v
+accepted_as s after bytes (Err (stops.Stopped stops.Faulty p)) read v = absurd cc
+accepted_as s after bytes (Err (stops.Stopped stops.NotYet p)) read v = absurd cc
 
 pub accepted_are_true : Reads → ReadsAgain → AcceptedBytesAreTrueBlocks
 accepted_are_true reads again s after bytes fits = (
@@ -83,7 +82,7 @@ accepted_are_true reads again s after bytes fits = (
       (a.block, found.0, found.1, whole s a.block found.0 a.true_on, a.is)),
   (λ (b, lawful, is, holds, after-is).
       let read : block_of bytes ≡ Ok b = ap block_of is ∙ again b lawful in
-      subst (λ (r : Result BlockView FormatFault). IsVerdictOf s r (Accepted after)) (sym read) (by_places s b holds, after-is)),
+      subst (λ (r : Result BlockView Stop). IsVerdictOf s r (Accepted after)) (sym read) (by_places s b holds, after-is)),
 )
 
 -- ---- what is left

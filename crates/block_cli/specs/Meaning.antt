@@ -1,6 +1,8 @@
 -- What each command means: its answers to the contents of the files that it reads. It knows no file and no sink.
-use Rattle.std.specs.Prelude.{ℕ, List, [], ◌∷◌}
-use Rattle.block_cli.specs.Commands.{Command, Validate}
+use Rattle.std.specs.Prelude.{◌≡◌, ℕ, List, [], ◌∷◌, length}
+use Rattle.std.specs.List.{AllByRecursion}
+use Rattle.byte_fields.specs.Laws.{IsBytes}
+use Rattle.block_cli.specs.Commands.{Command, Validate, reads}
 use Rattle.block_cli.specs.Answers.{Answer, WritesUnder}
 use Rattle.block_cli.specs.Validating.{Validates}
 
@@ -8,6 +10,12 @@ use Rattle.block_cli.specs.Validating.{Validates}
 abbrev pub Means : Command → List (List ℕ) → Answer → Type 0
 Means (Validate state block next workers) (spelt ∷ bytes ∷ []) answer = Validates state next spelt bytes answer
 Means (Validate state block next workers) _ answer = ⊥
+
+-- every command has an answer to the bytes of all files that it reads
+abbrev pub ContentsHaveAnAnswer : Type 0
+ContentsHaveAnAnswer =
+    (c : Command) (contents : List (List ℕ)) → length contents ≡ length (reads c) → AllByRecursion IsBytes contents →
+    (answer : Answer) × Means c contents answer
 
 -- an answer writes each file of its command under Done, and none under any other status
 abbrev pub AnswersWriteAllOrNothing : Type 0

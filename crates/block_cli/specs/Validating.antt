@@ -1,7 +1,7 @@
 -- What `validate` means: the answer to the bytes of a state and of a block.
 use Rattle.std.specs.Prelude.{◌≡◌, ℕ, List, [], ◌∷◌, Result, Ok, Err}
-use Rattle.cell_names.specs.declared.fault.FormatFault.{FormatFault}
-use Rattle.cell_names.specs.declared.fault.FormatFault.TheVariants as faults
+use Rattle.byte_fields.specs.Stops.{Stop}
+use Rattle.byte_fields.specs.Stops as stops
 use Rattle.ledger_state.specs.Ledger.{Ledger}
 use Rattle.ledger_state.specs.Spelling.{spelling}
 use Rattle.ledger_state.specs.Reading.{ledger_of}
@@ -16,10 +16,9 @@ answer_to next (Refused why) = refused (refusal_text why)
 answer_to next (Accepted s) = done (accepted_line s) ((next, spelling s) ∷ [])
 
 -- the answer to a state that is read so, and to the bytes of a block
-abbrev pub ValidatesOn : Name → Name → Result Ledger FormatFault → List ℕ → Answer → Type 0
-ValidatesOn state next (Err (faults.At p)) block answer = answer ≡ bad_input state (malformed p.0)
-ValidatesOn state next (Err (faults.NotYet p)) block answer = answer ≡ bad_input state (not_yet p)
-ValidatesOn state next (Err faults.NoMemory) block answer = ⊥
+abbrev pub ValidatesOn : Name → Name → Result Ledger Stop → List ℕ → Answer → Type 0
+ValidatesOn state next (Err (stops.Stopped stops.Faulty p)) block answer = answer ≡ bad_input state (malformed p)
+ValidatesOn state next (Err (stops.Stopped stops.NotYet p)) block answer = answer ≡ bad_input state (not_yet p)
 ValidatesOn state next (Ok s) block answer = (v : Verdict) × IsVerdict s block v × (answer ≡ answer_to next v)
 
 -- the answer to the bytes of STATE and of BLOCK, which names STATE where that is at fault

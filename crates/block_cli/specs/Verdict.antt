@@ -1,7 +1,7 @@
 -- The verdict on a block, by the state that it stands on: the first line of the table that holds.
 use Rattle.std.specs.Prelude.{◌≡◌, ◌≢◌, ◌↔◌, ℕ, ◌+◌, ◌<◌, ◌≤◌, List, length, Result, Ok, Err, slice_get}
-use Rattle.cell_names.specs.declared.fault.FormatFault.{FormatFault}
-use Rattle.cell_names.specs.declared.fault.FormatFault.TheVariants as faults
+use Rattle.byte_fields.specs.Stops.{Stop}
+use Rattle.byte_fields.specs.Stops as stops
 use Rattle.byte_fields.specs.Laws.{IsBytes}
 use Rattle.edge_io.specs.Outside.{most_bytes}
 use Rattle.ledger_state.specs.Ledger.{Ledger, supply}
@@ -75,11 +75,10 @@ IsVerdictOn s b (Refused why) = IsRefusedOn s b why
 IsVerdictOn s b (Accepted after) = IsTrueOn s b × (after ≡ state_after s b)
 
 -- the verdict on bytes that are read so
-abbrev pub IsVerdictOf : Ledger → Result BlockView FormatFault → Verdict → Type 0
+abbrev pub IsVerdictOf : Ledger → Result BlockView Stop → Verdict → Type 0
 IsVerdictOf s (Ok b) v = IsVerdictOn s b v
-IsVerdictOf s (Err (faults.At p)) v = v ≡ Refused (Malformed p.0)
-IsVerdictOf s (Err (faults.NotYet p)) v = v ≡ Refused (NotYet p)
-IsVerdictOf s (Err faults.NoMemory) v = ⊥
+IsVerdictOf s (Err (stops.Stopped stops.Faulty p)) v = v ≡ Refused (Malformed p)
+IsVerdictOf s (Err (stops.Stopped stops.NotYet p)) v = v ≡ Refused (NotYet p)
 
 -- the verdict on the bytes of a block
 abbrev pub IsVerdict : Ledger → List ℕ → Verdict → Type 0
@@ -119,6 +118,6 @@ AcceptedBlocksLeaveLedgers =
     (s after : Ledger) (bytes : List ℕ) → IsBytes bytes → IsLedger s → IsVerdict s bytes (Accepted after) →
     length (spelt after) ≤ most_bytes → LeavesLedger s after
 
--- every lawful block has a verdict on every state
-abbrev pub BlocksHaveVerdicts : Type 0
-BlocksHaveVerdicts = (s : Ledger) (b : BlockView) → IsBlock b → (v : Verdict) × IsVerdictOn s b v
+-- a state and bytes have a verdict
+abbrev pub HaveAVerdict : Type 0
+HaveAVerdict = (s : Ledger) (bytes : List ℕ) → IsBytes bytes → (v : Verdict) × IsVerdict s bytes v

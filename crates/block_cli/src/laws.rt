@@ -1,7 +1,7 @@
 //! What is true of the definitions.
 ghost use Rattle.block_cli.specs.Numbers.{NumbersHaveOneSpelling};
-ghost use Rattle.block_cli.specs.Meaning.{AnswersWriteAllOrNothing};
-ghost use Rattle.block_cli.specs.Verdict.{AcceptedBlocksLeaveLedgers, AcceptedBytesAreTrueBlocks, BlocksHaveVerdicts, HaveOneVerdict};
+ghost use Rattle.block_cli.specs.Meaning.{AnswersWriteAllOrNothing, ContentsHaveAnAnswer};
+ghost use Rattle.block_cli.specs.Verdict.{AcceptedBlocksLeaveLedgers, AcceptedBytesAreTrueBlocks, HaveAVerdict, HaveOneVerdict};
 
 use block_codec::blocks_have_one_spelling;
 use ledger_state::ledgers_have_one_spelling;
@@ -22,10 +22,19 @@ pub fn verdict_is_one()
     ensures { HaveOneVerdict }
 {}
 
-/// Every block has a verdict on every state.
-pub fn blocks_have_verdicts()
-    ensures { BlocksHaveVerdicts }
-{}
+/// A state and bytes have a verdict.
+pub fn verdict_is_there()
+    ensures { HaveAVerdict }
+{
+    blocks_have_one_spelling();
+}
+
+/// Every command has an answer to the contents of all its files.
+pub fn contents_have_an_answer()
+    ensures { ContentsHaveAnAnswer }
+{
+    blocks_have_one_spelling();
+}
 
 /// Bytes are accepted exactly where they spell a block that is published as it is run.
 pub fn accepted_bytes_are_true_blocks()

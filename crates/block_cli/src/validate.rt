@@ -1,7 +1,8 @@
 //! What `validate` makes of the bytes of a state and of a block.
 ghost use Rattle.std.specs.Prelude.{◌≡◌, ◌<◌, ◌≤◌, ◌^◌, ℕ, List, IfOk, Ok, length};
 ghost use Rattle.std.specs.FinMap.{len};
-ghost use Rattle.cell_names.specs.Answers.{IsTold};
+ghost use Rattle.byte_fields.specs.Told.{AnswersUnlessFull};
+ghost use Rattle.cell_names.specs.Stops.{format_fault};
 ghost use Rattle.edge_io.specs.Outside.{most_bytes};
 ghost use Rattle.ledger_state.specs.Reading.{ledger_of};
 ghost use Rattle.block_cli.specs.Verdict.{Accepted};
@@ -19,7 +20,7 @@ use std::alloc::{AllocError, Global};
 
 /// The state that bytes spell. The bytes are let go here.
 fn parsed(alloc: Global, bytes: Vec<u8>) -> Result<State, FormatFault>
-    ensures told { IsTold result (ledger_of bytes.items) }
+    ensures told { AnswersUnlessFull format_fault (λ x. x) result (ledger_of bytes.items) }
     ensures few { IfOk result (λ s. len s.balances ≤ length bytes.items) }
 {
     read_state(alloc, &bytes)

@@ -5,13 +5,14 @@ use Rattle.std.proofs.lemmas.List.Sums.{sum_by-cons}
 use Rattle.std.specs.Int.{w8, w32, w64, to_be_bytes}
 use Rattle.std.specs.List.{flat_map, AllByRecursion}
 use Rattle.std.proofs.lemmas.Bool.{leb-true, le-leb}
-use Rattle.byte_fields.specs.Laws.{AllAlong}
+use Rattle.byte_fields.specs.Laws.{AllAlong, Reads, ReadsWhole}
+use Rattle.byte_fields.proofs.Joined.{both_reads, built_reads, checked_reads, made_reads, reads_as, with_reads}
+use Rattle.byte_fields.proofs.Lists.{chained_reads, many_reads}
+use Rattle.byte_fields.proofs.Whole.{whole_reads}
 use Rattle.byte_fields.proofs.Digits.{wide8, wide32, wide64}
-use Rattle.byte_fields.proofs.Numbers.{number_reads, run_reads}
-use Rattle.byte_fields.proofs.Lists.{many_reads}
+use Rattle.byte_fields.proofs.Numbers.{behind_reads, number_reads, run_reads}
 use Rattle.cell_names.specs.Spelling.{spell_footprint, IsFootprint}
-use Rattle.cell_names.proofs.Forget.{ReadsPart, ReadsAll, reads_plain, reads_same, reads_made, reads_both, reads_with, reads_checked, reads_built, reads_chained, reads_many, reads_behind, reads_whole}
-use Rattle.cell_names.proofs.NotYet.{reads_footprint}
+use Rattle.cell_names.proofs.Grammar.{footprint_reads}
 use Rattle.block_codec.specs.declared.transfer.Transfer.{Transfer}
 use Rattle.block_codec.specs.declared.transfer.Receipt.{Receipt}
 use Rattle.block_codec.specs.Block.{BlockView, IsTransfer, IsList, IsBlock, gas_of}
@@ -49,31 +50,31 @@ record AreOps (n : ℕ) (all : List Transfer) : Type 0 where
   lawful : AllByRecursion IsTransfer all
   within : gas_of all ≤ 1000000000
 
-ops_reads : (n : ℕ) → ReadsPart (ops n) (flat_map op_bytes) (AreOps n)
+ops_reads : (n : ℕ) → Reads (ops n) (flat_map op_bytes) (AreOps n)
 ops_reads n =
-    reads_same (flat_map op_bytes) (AreOps n)
+    reads_as (flat_map op_bytes) (AreOps n)
     (λ all good. let w = within_gas 0 all good.1 in let least : 0 + gas_of all ≤ 1000000000 = w.within (omega arith) in (refl, record { number_is = good.0; lawful = w.lawful; within = omega arith }))
     (λ all good. let most : gas_of all ≤ 1000000000 = good.within in (good.number_is, along_gas 0 all good.lawful (omega arith)))
-    (reads_chained gas_up_to op_reads 0 n)
+    (chained_reads gas_up_to op_reads 0 n)
 
 -- ---- lists, footprints and receipts
 
-small_reads : ReadsPart small (to_be_bytes w32) (λ n. n ≤ 512)
+small_reads : Reads small (to_be_bytes w32) (λ n. n ≤ 512)
 small_reads =
-    reads_same (to_be_bytes w32) (λ n. n ≤ 512) (λ n good. (refl, leb-true n 512 good.1)) (λ n le. (omega arith, le-leb n 512 le))
-    (reads_checked (λ n. nat_le n 512) (reads_plain (number_reads w32 (2 ^ 32) wide32)))
+    reads_as (to_be_bytes w32) (λ n. n ≤ 512) (λ n good. (refl, leb-true n 512 good.1)) (λ n le. (omega arith, le-leb n 512 le))
+    (checked_reads (λ n. nat_le n 512) ((number_reads w32 (2 ^ 32) wide32)))
 
-list_reads : ReadsPart list list_bytes IsList
+list_reads : Reads list list_bytes IsList
 list_reads =
-    reads_same list_bytes IsList
+    reads_as list_bytes IsList
     (λ all good. (refl, record { few = good.0; numbers = good.1.1 }))
     (λ all good. (good.few, (refl, good.numbers)))
-    (reads_with small_reads (λ n. reads_plain (many_reads (number_reads w32 (2 ^ 32) wide32) n)) length (λ n all good. good.0))
+    (with_reads small_reads (λ n. many_reads (number_reads w32 (2 ^ 32) wide32) n) length (λ n all good. good.0))
 
-tag_reads : ReadsPart tag (to_be_bytes w8) (λ t. t ≤ 1)
+tag_reads : Reads tag (to_be_bytes w8) (λ t. t ≤ 1)
 tag_reads =
-    reads_same (to_be_bytes w8) (λ t. t ≤ 1) (λ t good. (refl, leb-true t 1 good.1)) (λ t le. ((omega arith, le-leb t 14 (omega arith)), le-leb t 1 le))
-    (reads_built (λ t. nat_le t 1) (reads_checked (λ t. nat_le t 14) (reads_plain (number_reads w8 (2 ^ 8) wide8))))
+    reads_as (to_be_bytes w8) (λ t. t ≤ 1) (λ t good. (refl, leb-true t 1 good.1)) (λ t le. ((omega arith, le-leb t 14 (omega arith)), le-leb t 1 le))
+    (built_reads (λ t. nat_le t 1) (checked_reads (λ t. nat_le t 14) ((number_reads w8 (2 ^ 8) wide8))))
 
 tag_spelt : (t : ℕ) → t ≤ 1 → to_be_bytes w8 t ≡ cond (eqb t 0) 0 1 ∷ []
 tag_spelt zero h = refl
@@ -87,13 +88,13 @@ tag_back false = (omega arith, refl)
 abbrev IsReceipt : Receipt → Type 0
 IsReceipt r = r.gas < 2 ^ 32
 
-receipt_reads : ReadsPart receipt receipt_bytes IsReceipt
+receipt_reads : Reads receipt receipt_bytes IsReceipt
 unfolding receipt
 receipt_reads =
-    reads_made (λ (p : ℕ × ℕ). let r : Receipt = record { applied = eqb p.0 0; gas = p.1 } in r) (λ (r : Receipt). (cond r.applied 0 1, r.gas)) receipt_bytes IsReceipt
+    made_reads (λ (p : ℕ × ℕ). let r : Receipt = record { applied = eqb p.0 0; gas = p.1 } in r) (λ (r : Receipt). (cond r.applied 0 1, r.gas)) receipt_bytes IsReceipt
     (λ p good. (ap (λ (tag : List ℕ). tag ++ to_be_bytes w32 p.1) (tag_spelt p.0 good.0), good.1))
     (λ r good. (((tag_back r.applied).0, good), ap (λ (b : Bool). let r : Receipt = record { applied = b; gas = r.gas } in r) (tag_back r.applied).1))
-    (reads_both tag_reads (reads_plain (number_reads w32 (2 ^ 32) wide32)))
+    (both_reads tag_reads ((number_reads w32 (2 ^ 32) wide32)))
 
 -- ---- what is published
 
@@ -110,16 +111,16 @@ record AreParts (n : ℕ) (p : Parts) : Type 0 where
   ended : length p.1.1.1 ≡ n
   receipts : AllByRecursion IsReceipt p.1.1.1
 
-parts_reads : (n : ℕ) → ReadsPart (parts n) parts_bytes (AreParts n)
+parts_reads : (n : ℕ) → Reads (parts n) parts_bytes (AreParts n)
 unfolding parts
 parts_reads n =
-    reads_same parts_bytes (AreParts n)
+    reads_as parts_bytes (AreParts n)
     (λ p good. (refl, record { ops = good.0; joined = good.1.0.0; joins = good.1.0.1; touched = good.1.1.0.0; footprints = good.1.1.0.1; ended = good.1.1.1.0; receipts = good.1.1.1.1 }))
     (λ p good. (good.ops, ((good.joined, good.joins), ((good.touched, good.footprints), (good.ended, good.receipts)))))
-    (reads_both (ops_reads n) (reads_both (reads_many list_reads n) (reads_both (reads_many reads_footprint n) (reads_many receipt_reads n))))
+    (both_reads (ops_reads n) (both_reads (many_reads list_reads n) (both_reads (many_reads footprint_reads n) (many_reads receipt_reads n))))
 
-published_reads : ReadsPart published (λ p. to_be_bytes w32 (length p.0) ++ parts_bytes p) (λ p. (length p.0 ≤ 512) × AreParts (length p.0) p)
-published_reads = reads_with small_reads parts_reads (λ (p : Parts). length p.0) (λ n p good. good.ops.number_is)
+published_reads : Reads published (λ p. to_be_bytes w32 (length p.0) ++ parts_bytes p) (λ p. (length p.0 ≤ 512) × AreParts (length p.0) p)
+published_reads = with_reads small_reads parts_reads (λ (p : Parts). length p.0) (λ n p good. good.ops.number_is)
 
 -- ---- blocks
 
@@ -171,10 +172,10 @@ block_spelt b =
     parts_joined magic b.parent (to_be_bytes w32 b.level) (to_be_bytes w64 b.now) (to_be_bytes w32 (length b.ops)) (flat_map op_bytes b.ops) (flat_map list_bytes b.joins) (flat_map spell_footprint b.footprints)
     (flat_map receipt_bytes b.receipts) b.state
 
-pub block_reads : ReadsAll block spelling IsBlock
+pub block_reads : ReadsWhole block spelling IsBlock
 unfolding block
 block_reads =
-    reads_whole (reads_made block_from fields_of spelling IsBlock
+    whole_reads (made_reads block_from fields_of spelling IsBlock
     (λ p good. (block_spelt (block_from p), is_block p good))
     (λ b good. (are_fields b good, refl))
-    (reads_behind magic (reads_both (reads_plain (run_reads 32)) (reads_both (reads_plain (number_reads w32 (2 ^ 32) wide32)) (reads_both (reads_plain (number_reads w64 (2 ^ 64) wide64)) (reads_both published_reads (reads_plain (run_reads 32))))))))
+    (behind_reads magic (both_reads ((run_reads 32)) (both_reads ((number_reads w32 (2 ^ 32) wide32)) (both_reads ((number_reads w64 (2 ^ 64) wide64)) (both_reads published_reads ((run_reads 32))))))))

@@ -1,25 +1,28 @@
 -- One more item of a list that is read, or spelt.
-use Rattle.std.proofs.Common.{◌≡◌, ℕ, ◌+◌, ◌-◌, ◌<◌, List, [], ◌∷◌, ◌++◌, length, take, Some, None, Ok, refl, sym, ap, subst, ◌∙◌, append_assoc}
+use Rattle.std.proofs.Common.{◌≡◌, ℕ, ◌+◌, ◌-◌, ◌<◌, List, [], ◌∷◌, ◌++◌, length, take, Option, Some, None, Ok, Err, refl, sym, ap, subst, ◌∙◌, append_assoc}
 use Rattle.std.specs.Prelude.{slice_get}
 use Rattle.std.specs.List.{flat_map}
 use Rattle.std.proofs.lemmas.List.{take_more, append-nil}
 use Rattle.std.proofs.lemmas.List.Concat.{flat_map-append, flat_map-cons}
 use Rattle.std.proofs.lemmas.Option.{slice_get_within, get_or_from_slice_get, slice_get-get_or}
-use Rattle.cell_names.specs.declared.fault.FormatStop.{FormatStop}
-use Rattle.cell_names.specs.Partial.{Reading, PartReader, many}
-use Rattle.cell_names.specs.Answers.{Stops}
-use Rattle.cell_names.proofs.PartLoops.{with_front, goes_on, ends}
+use Rattle.byte_fields.specs.Stops.{Stop}
+use Rattle.byte_fields.specs.Readers.{Read, Reader, many}
+use Rattle.byte_fields.specs.Told.{IsStop}
+use Rattle.byte_fields.proofs.Loops.{with_front, goes_on, stops, ends}
 
 -- ---- reading items that know nothing of each other
 
-module _ {A : Type 0} (read : PartReader A) (front : List A) (count i : ℕ) (bytes : List ℕ) (total : Reading (List A)) (lt : i < count) (so_far : with_front front (many read (count - i) bytes) ≡ total) where
+module _ {A : Type 0} (read : Reader A) (front : List A) (count i : ℕ) (bytes : List ℕ) (total : Read (List A)) (lt : i < count) (so_far : with_front front (many read (count - i) bytes) ≡ total) where
   pub one_more : (new : List A) (a : A) (rest : List ℕ) → new ≡ front ++ a ∷ [] → read bytes ≡ Ok (a, rest) → with_front new (many read (count - (i + 1)) rest) ≡ total
   one_more new a rest is was =
       subst (λ (l : List A). with_front l (many read (count - (i + 1)) rest) ≡ total) (sym is)
       (goes_on {S = Unit {0}} (λ state. read) (λ state a. state) tt tt front count i bytes a rest total lt was refl so_far)
 
-  pub stops_all : (e : FormatStop) → Stops e (read bytes) → Stops e total
-  stops_all e stopped = ends {S = Unit {0}} e (λ state. read) (λ state a. state) tt front count i bytes total lt stopped so_far
+  pub stop_of_all : (stop : Stop) → read bytes ≡ Err stop → total ≡ Err stop
+  stop_of_all stop stopped = stops {S = Unit {0}} stop (λ state. read) (λ state a. state) tt front count i bytes total lt stopped so_far
+
+  pub stops_all : (stop : Option Stop) → IsStop stop (read bytes) → IsStop stop total
+  stops_all stop stopped = ends {S = Unit {0}} stop (λ state. read) (λ state a. state) tt front count i bytes total lt stopped so_far
 
 -- ---- spelling
 

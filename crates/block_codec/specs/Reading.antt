@@ -1,15 +1,13 @@
 -- Reading a block from its front: which fault comes where, and which lawful field isn't built.
 use Rattle.std.specs.Prelude.{ℕ, List, length, Result, nat_le, ◌==◌}
 use Rattle.std.specs.Int.{w8, w32, w64}
-use Rattle.byte_fields.specs.Readers.{Reader, number, run}
-use Rattle.byte_fields.specs.Readers.{many as several}
+use Rattle.byte_fields.specs.Stops.{Stop}
+use Rattle.byte_fields.specs.Readers.{Reader, number, run, made, both, with, checked, built}
+use Rattle.byte_fields.specs.Readers.{chained, many, behind, whole}
+use Rattle.byte_fields.specs.Told.{alone}
 use Rattle.cell_names.specs.declared.cell.Cell.{Cell}
 use Rattle.cell_names.specs.declared.mode.Mode.{Mode}
-use Rattle.cell_names.specs.declared.fault.FormatFault.{FormatFault}
-use Rattle.cell_names.specs.Partial.{PartReader, plain, made, both, with, checked, built}
-use Rattle.cell_names.specs.Partial.{chained, many, behind, whole}
-use Rattle.cell_names.specs.Answers.{told_alone}
-use Rattle.cell_names.specs.Reading.{footprint_or_later}
+use Rattle.cell_names.specs.Reading.{footprint}
 use Rattle.block_codec.specs.declared.transfer.Transfer.{Transfer}
 use Rattle.block_codec.specs.declared.transfer.Receipt.{Receipt}
 use Rattle.block_codec.specs.Block.{BlockView}
@@ -17,39 +15,39 @@ use Rattle.block_codec.specs.Spelling.{magic}
 use Rattle.block_codec.specs.Operation.{op, gas_up_to}
 
 -- n operations, the first of which has no gas before it
-abbrev pub ops : ℕ → PartReader (List Transfer)
+abbrev pub ops : ℕ → Reader (List Transfer)
 ops = chained op gas_up_to 0
 
 -- a number of at most 512
-abbrev pub small : PartReader ℕ
-small = checked (λ n. nat_le n 512) (plain (number w32))
+abbrev pub small : Reader ℕ
+small = checked (λ n. nat_le n 512) (number w32)
 
 -- n numbers, whatever they are
 abbrev pub numbers : ℕ → Reader (List ℕ)
-numbers = several (number w32)
+numbers = many (number w32)
 
 -- what an operation is joined to: how many numbers, and each
-abbrev pub list : PartReader (List ℕ)
-list = with small (λ n. plain (numbers n))
+abbrev pub list : Reader (List ℕ)
+list = with small numbers
 
 -- the tag of a receipt, of which Applied and BalanceTooLow are built
-abbrev pub tag : PartReader ℕ
-tag = built (λ t. nat_le t 1) (checked (λ t. nat_le t 14) (plain (number w8)))
+abbrev pub tag : Reader ℕ
+tag = built (λ t. nat_le t 1) (checked (λ t. nat_le t 14) (number w8))
 
 -- how an operation ended, and its gas
-unfoldable pub receipt : PartReader Receipt
-receipt = made (λ p. record { applied = p.0 == 0; gas = p.1 }) (both tag (plain (number w32)))
+unfoldable pub receipt : Reader Receipt
+receipt = made (λ p. record { applied = p.0 == 0; gas = p.1 }) (both tag (number w32))
 
 -- operations, and the join list, the footprint and the receipt of each
 abbrev pub Parts : Type 0
 Parts = List Transfer × (List (List ℕ) × (List (List (Cell × Mode)) × List Receipt))
 
 -- the parts of n operations
-unfoldable pub parts : ℕ → PartReader Parts
-parts n = both (ops n) (both (many list n) (both (many footprint_or_later n) (many receipt n)))
+unfoldable pub parts : ℕ → Reader Parts
+parts n = both (ops n) (both (many list n) (both (many footprint n) (many receipt n)))
 
 -- how many operations, and the parts
-abbrev pub published : PartReader Parts
+abbrev pub published : Reader Parts
 published = with small parts
 
 -- parent, level, time, what is published, and the digest of the state
@@ -70,15 +68,15 @@ block_from p = record {
 }
 
 -- the fields, behind the magic
-abbrev pub fields : PartReader Fields
+abbrev pub fields : Reader Fields
 fields =
-    both (plain (run 32)) (both (plain (number w32)) (both (plain (number w64))
-    (both published (plain (run 32)))))
+    both (run 32) (both (number w32) (both (number w64)
+    (both published (run 32))))
 
 -- all of the bytes
-unfoldable pub block : PartReader BlockView
+unfoldable pub block : Reader BlockView
 block = whole (made block_from (behind magic fields))
 
--- the block that all of the bytes spell, or the first fault or field that isn't built
-abbrev pub block_of : List ℕ → Result BlockView FormatFault
-block_of bytes = told_alone (length bytes) (block bytes)
+-- the block that all of the bytes spell, or the place of the first fault or field that isn't built
+abbrev pub block_of : List ℕ → Result BlockView Stop
+block_of bytes = alone (length bytes) (block bytes)

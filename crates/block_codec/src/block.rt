@@ -10,12 +10,19 @@ use std::marker::Model;
 /// `parent`, and leads to the state whose digest is `state`.
 #[derive(Drop)]
 pub struct Block {
+    /// The digest of the state that the block stands on.
     pub parent: [u8; 32],
+    /// The level and the time of the state after the block.
     pub head: Head,
+    /// At most 512 operations, in published order.
     pub ops: Vec<Transfer>,
+    /// For each operation the numbers of earlier ones that it comes after.
     pub joins: Joins,
+    /// For each operation the cells that it touched.
     pub footprints: Vec<Footprint>,
+    /// For each operation how it ended.
     pub receipts: Vec<Receipt>,
+    /// The digest of the state after the block.
     pub state: [u8; 32],
 }
 

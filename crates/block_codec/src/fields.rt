@@ -2,13 +2,14 @@
 
 ghost use Rattle.std.specs.Prelude.{◌≡◌, ◌+◌, ◌≤◌, IfOk};
 ghost use Rattle.cell_names.specs.Accounts.{is_implicit};
-ghost use Rattle.cell_names.specs.Answers.{Answers};
+ghost use Rattle.byte_fields.specs.Told.{Answers};
+ghost use Rattle.cell_names.specs.Stops.{field_stop};
 ghost use Rattle.block_codec.specs.Spelling.{default_name};
 ghost use Rattle.block_codec.specs.Operation.{accounts, amount, call, dest, gas, name, name_length, op, param_tag, source, turns};
 
 use crate::transfer::Transfer;
 use byte_fields::{run_at, u8_at, u32_at, u64_at};
-use cell_names::FormatStop;
+use cell_names::FieldStop;
 use value_codec::address_at;
 use value_core::{Address, Name};
 
@@ -23,9 +24,9 @@ const MOST_BLOCK_GAS: u32 = 1_000_000_000;
 
 /// An operation, where those before it have so much gas together.
 #[tactic(auto, unfolding(crate::specs::Operation::op))]
-pub fn op_at(total: u32, bytes: &[u8]) -> Result<(Transfer, &[u8]), FormatStop>
+pub fn op_at(total: u32, bytes: &[u8]) -> Result<(Transfer, &[u8]), FieldStop>
     requires { total ≤ 1000000000 }
-    ensures read { Answers (λ x. (x.0, x.1.now)) result (op total bytes.now) }
+    ensures read { Answers field_stop (λ x. (x.0, x.1.now)) result (op total bytes.now) }
     ensures within { IfOk result (λ x. total + x.0.gas ≤ 1000000000) }
 {
     match accounts_at(bytes) {
@@ -49,8 +50,8 @@ pub fn op_at(total: u32, bytes: &[u8]) -> Result<(Transfer, &[u8]), FormatStop>
 
 /// The source and the destination.
 #[tactic(auto, unfolding(crate::specs::Operation::accounts))]
-fn accounts_at(bytes: &[u8]) -> Result<((Address, Address), &[u8]), FormatStop>
-    ensures { Answers (λ x. (x.0, x.1.now)) result (accounts bytes.now) }
+fn accounts_at(bytes: &[u8]) -> Result<((Address, Address), &[u8]), FieldStop>
+    ensures { Answers field_stop (λ x. (x.0, x.1.now)) result (accounts bytes.now) }
 {
     match source_at(bytes) {
         Ok((source, rest)) => match dest_at(rest) {
@@ -61,31 +62,31 @@ fn accounts_at(bytes: &[u8]) -> Result<((Address, Address), &[u8]), FormatStop>
     }
 }
 
-fn source_at(bytes: &[u8]) -> Result<(Address, &[u8]), FormatStop>
-    ensures { Answers (λ x. (x.0, x.1.now)) result (source bytes.now) }
+fn source_at(bytes: &[u8]) -> Result<(Address, &[u8]), FieldStop>
+    ensures { Answers field_stop (λ x. (x.0, x.1.now)) result (source bytes.now) }
 {
     match address_at(bytes) {
         Ok((address, rest)) => {
             if !is_account(&address) {
-                return Err(FormatStop::Left(bytes.len()));
+                return Err(FieldStop::Left(bytes.len()));
             }
             Ok((address, rest))
         }
-        Err(stop) => Err(FormatStop::from(stop)),
+        Err(stop) => Err(FieldStop::from(stop)),
     }
 }
 
-fn dest_at(bytes: &[u8]) -> Result<(Address, &[u8]), FormatStop>
-    ensures { Answers (λ x. (x.0, x.1.now)) result (dest bytes.now) }
+fn dest_at(bytes: &[u8]) -> Result<(Address, &[u8]), FieldStop>
+    ensures { Answers field_stop (λ x. (x.0, x.1.now)) result (dest bytes.now) }
 {
     match address_at(bytes) {
         Ok((address, rest)) => {
             if !is_account(&address) {
-                return Err(FormatStop::NotYet(bytes.len()));
+                return Err(FieldStop::NotYet(bytes.len()));
             }
             Ok((address, rest))
         }
-        Err(stop) => Err(FormatStop::from(stop)),
+        Err(stop) => Err(FieldStop::from(stop)),
     }
 }
 
@@ -98,77 +99,77 @@ fn is_account(address: &Address) -> bool
 
 /// What stands behind the entry `default` and the param Unit.
 #[tactic(auto, unfolding(crate::specs::Operation::call))]
-fn call_at(bytes: &[u8]) -> Result<&[u8], FormatStop>
-    ensures { Answers (λ x. ((7, (default_name, 0)), x.now)) result (call bytes.now) }
+fn call_at(bytes: &[u8]) -> Result<&[u8], FieldStop>
+    ensures { Answers field_stop (λ x. ((7, (default_name, 0)), x.now)) result (call bytes.now) }
 {
     let rest = name_length_at(bytes)?;
     let rest = name_at(rest)?;
     param_tag_at(rest)
 }
 
-fn name_length_at(bytes: &[u8]) -> Result<&[u8], FormatStop>
-    ensures { Answers (λ x. (7, x.now)) result (name_length bytes.now) }
+fn name_length_at(bytes: &[u8]) -> Result<&[u8], FieldStop>
+    ensures { Answers field_stop (λ x. (7, x.now)) result (name_length bytes.now) }
 {
     let (length, rest) = u8_at(bytes)?;
     match length {
         7 => Ok(rest),
-        1..=31 => Err(FormatStop::NotYet(bytes.len())),
-        _ => Err(FormatStop::Left(bytes.len())),
+        1..=31 => Err(FieldStop::NotYet(bytes.len())),
+        _ => Err(FieldStop::Left(bytes.len())),
     }
 }
 
-fn name_at(bytes: &[u8]) -> Result<&[u8], FormatStop>
-    ensures { Answers (λ x. (default_name, x.now)) result (name bytes.now) }
+fn name_at(bytes: &[u8]) -> Result<&[u8], FieldStop>
+    ensures { Answers field_stop (λ x. (default_name, x.now)) result (name bytes.now) }
 {
     let (front, rest) = run_at(7, bytes)?;
     if front == b"default".as_slice() {
         return Ok(rest);
     }
     match Name::new(front) {
-        Some(_) => Err(FormatStop::NotYet(bytes.len())),
-        None => Err(FormatStop::Left(bytes.len())),
+        Some(_) => Err(FieldStop::NotYet(bytes.len())),
+        None => Err(FieldStop::Left(bytes.len())),
     }
 }
 
-fn param_tag_at(bytes: &[u8]) -> Result<&[u8], FormatStop>
-    ensures { Answers (λ x. (0, x.now)) result (param_tag bytes.now) }
+fn param_tag_at(bytes: &[u8]) -> Result<&[u8], FieldStop>
+    ensures { Answers field_stop (λ x. (0, x.now)) result (param_tag bytes.now) }
 {
     let (tag, rest) = u8_at(bytes)?;
     match tag {
         0 => Ok(rest),
-        1..=17 => Err(FormatStop::NotYet(bytes.len())),
-        _ => Err(FormatStop::Left(bytes.len())),
+        1..=17 => Err(FieldStop::NotYet(bytes.len())),
+        _ => Err(FieldStop::Left(bytes.len())),
     }
 }
 
-fn amount_at(bytes: &[u8]) -> Result<(u64, &[u8]), FormatStop>
-    ensures { Answers (λ x. (x.0, x.1.now)) result (amount bytes.now) }
+fn amount_at(bytes: &[u8]) -> Result<(u64, &[u8]), FieldStop>
+    ensures { Answers field_stop (λ x. (x.0, x.1.now)) result (amount bytes.now) }
 {
     let (number, rest) = u64_at(bytes)?;
     if number >= AMOUNTS {
-        return Err(FormatStop::Left(bytes.len()));
+        return Err(FieldStop::Left(bytes.len()));
     }
     Ok((number, rest))
 }
 
-fn gas_at(total: u32, bytes: &[u8]) -> Result<(u32, &[u8]), FormatStop>
+fn gas_at(total: u32, bytes: &[u8]) -> Result<(u32, &[u8]), FieldStop>
     requires { total ≤ 1000000000 }
-    ensures read { Answers (λ x. (x.0, x.1.now)) result (gas total bytes.now) }
+    ensures read { Answers field_stop (λ x. (x.0, x.1.now)) result (gas total bytes.now) }
     ensures within { IfOk result (λ x. total + x.0 ≤ 1000000000) }
 {
     let (number, rest) = u32_at(bytes)?;
     if number > MOST_GAS || total + number > MOST_BLOCK_GAS {
-        return Err(FormatStop::Left(bytes.len()));
+        return Err(FieldStop::Left(bytes.len()));
     }
     Ok((number, rest))
 }
 
-fn turns_at(bytes: &[u8]) -> Result<(u32, &[u8]), FormatStop>
-    ensures { Answers (λ x. (x.0, x.1.now)) result (turns bytes.now) }
+fn turns_at(bytes: &[u8]) -> Result<(u32, &[u8]), FieldStop>
+    ensures { Answers field_stop (λ x. (x.0, x.1.now)) result (turns bytes.now) }
 {
     let (number, rest) = u32_at(bytes)?;
     if number > 1_000_000 {
-        return Err(FormatStop::Left(bytes.len()));
+        return Err(FieldStop::Left(bytes.len()));
     }
     Ok((number, rest))
 }

@@ -1,11 +1,12 @@
 //! Reading a block.
 
 ghost use Rattle.std.specs.Prelude.{◌≡◌, [], IfOk};
-ghost use Rattle.byte_fields.specs.Told.{Gives};
-ghost use Rattle.cell_names.specs.Answers.{Answers, IsTold};
-ghost use Rattle.cell_names.specs.Partial.{many};
-ghost use Rattle.cell_names.specs.Reading.{footprint_or_later};
-ghost use Rattle.block_codec.specs.Block.{BlockView, IsBlock};
+ghost use Rattle.byte_fields.specs.Readers.{many};
+ghost use Rattle.byte_fields.specs.Laws.{TellsWhole};
+ghost use Rattle.byte_fields.specs.Told.{Answers, AnswersUnlessFull, read_stop};
+ghost use Rattle.cell_names.specs.Reading.{footprint};
+ghost use Rattle.cell_names.specs.Stops.{field_stop, format_stop, format_fault};
+ghost use Rattle.block_codec.specs.Block.{IsBlock};
 ghost use Rattle.block_codec.specs.Spelling.{spelling};
 ghost use Rattle.block_codec.specs.Reading.{block, block_from, block_of, list, numbers, ops, parts, published, receipt, small, tag};
 
@@ -13,7 +14,7 @@ use crate::block::Block;
 use crate::fields::op_at;
 use crate::transfer::{Receipt, Transfer};
 use byte_fields::{ReadStop, array_at, mark_of, u8_at, u32_at, u64_at};
-use cell_names::{Footprint, FormatFault, FormatStop, Head, fault_at, footprint_at};
+use cell_names::{FieldStop, Footprint, FormatFault, FormatStop, Head, fault_at, footprint_at};
 use join_schedule::Joins;
 use std::alloc::Global;
 use std::marker::Model;
@@ -23,15 +24,15 @@ pub fn read_block(alloc: Global, bytes: &[u8]) -> Result<Block, FormatFault>
     // What is read is spelt so.
     ensures found { IfOk result (λ b. IsBlock b × (bytes.now ≡ spelling b)) }
     // What is spelt so is read, unless memory runs out.
-    ensures only { (b : BlockView) → IsBlock b → bytes.now ≡ spelling b → IsTold result (Ok b) }
+    ensures only { TellsWhole format_fault spelling IsBlock bytes.now result }
     // Which fault it is, or which field isn't built.
-    ensures place { IsTold result (block_of bytes.now) }
+    ensures place { AnswersUnlessFull format_fault (λ x. x) result (block_of bytes.now) }
 {
     told_block(alloc, bytes)
 }
 
 fn told_block(alloc: Global, bytes: &[u8]) -> Result<Block, FormatFault>
-    ensures { IsTold result (block_of bytes.now) }
+    ensures { AnswersUnlessFull format_fault (λ x. x) result (block_of bytes.now) }
 {
     match block_at(alloc, bytes) {
         Ok(block) => Ok(block),
@@ -42,7 +43,7 @@ fn told_block(alloc: Global, bytes: &[u8]) -> Result<Block, FormatFault>
 /// The fields of a block, and nothing behind them.
 #[tactic(auto, unfolding(crate::specs::Reading::block))]
 fn block_at(alloc: Global, bytes: &[u8]) -> Result<Block, FormatStop>
-    ensures { Answers (λ b. (b, [])) result (block bytes.now) }
+    ensures { AnswersUnlessFull format_stop (λ b. (b, [])) result (block bytes.now) }
 {
     let rest = mark_of(b"FJB1", bytes)?;
     let (parent, rest) = array_at::<32>(rest)?;
@@ -96,7 +97,7 @@ impl Model for Published {
 
 /// How many operations, and their parts.
 fn published_at(alloc: Global, bytes: &[u8]) -> Result<(Published, &[u8]), FormatStop>
-    ensures { Answers (λ x. (x.0, x.1.now)) result (published bytes.now) }
+    ensures { AnswersUnlessFull format_stop (λ x. (x.0, x.1.now)) result (published bytes.now) }
 {
     let (count, rest) = small_at(bytes)?;
     parts_at(alloc, count, rest)
@@ -105,7 +106,7 @@ fn published_at(alloc: Global, bytes: &[u8]) -> Result<(Published, &[u8]), Forma
 /// The parts of so many operations.
 #[tactic(auto, unfolding(crate::specs::Reading::parts))]
 fn parts_at(alloc: Global, count: u32, bytes: &[u8]) -> Result<(Published, &[u8]), FormatStop>
-    ensures { Answers (λ x. (x.0, x.1.now)) result (parts count bytes.now) }
+    ensures { AnswersUnlessFull format_stop (λ x. (x.0, x.1.now)) result (parts count bytes.now) }
 {
     let (ops, rest) = ops_at(alloc, count, bytes)?;
     let (joins, rest) = joins_at(alloc, count, rest)?;
@@ -122,7 +123,8 @@ fn parts_at(alloc: Global, count: u32, bytes: &[u8]) -> Result<(Published, &[u8]
 
 /// So many operations, whose gas together stays within a block's.
 fn ops_at(alloc: Global, count: u32, bytes: &[u8]) -> Result<(Vec<Transfer>, &[u8]), FormatStop>
-    ensures { Answers (λ x. (x.0.items, x.1.now)) result (ops count bytes.now) }
+    ensures { AnswersUnlessFull format_stop (λ x. (x.0.items, x.1.now)) result
+        (ops count bytes.now) }
 {
     let mut ops = Vec::new(alloc);
     let mut total = 0;
@@ -134,7 +136,7 @@ fn ops_at(alloc: Global, count: u32, bytes: &[u8]) -> Result<(Vec<Transfer>, &[u
                 ops.push(op)?;
                 rest = after;
             }
-            Err(stop) => return Err(stop),
+            Err(stop) => return Err(FormatStop::from(stop)),
         }
     }
     Ok((ops, rest))
@@ -142,7 +144,8 @@ fn ops_at(alloc: Global, count: u32, bytes: &[u8]) -> Result<(Vec<Transfer>, &[u
 
 /// So many lists of joins.
 fn joins_at(alloc: Global, count: u32, bytes: &[u8]) -> Result<(Joins, &[u8]), FormatStop>
-    ensures { Answers (λ x. (x.0, x.1.now)) result (many list count bytes.now) }
+    ensures { AnswersUnlessFull format_stop (λ x. (x.0, x.1.now)) result
+        (many list count bytes.now) }
 {
     let mut lists: Vec<Vec<u32>> = Vec::new(alloc);
     let mut rest = bytes;
@@ -160,7 +163,7 @@ fn joins_at(alloc: Global, count: u32, bytes: &[u8]) -> Result<(Joins, &[u8]), F
 
 /// A count, and so many numbers.
 fn list_at(alloc: Global, bytes: &[u8]) -> Result<(Vec<u32>, &[u8]), FormatStop>
-    ensures { Answers (λ x. (x.0.items, x.1.now)) result (list bytes.now) }
+    ensures { AnswersUnlessFull format_stop (λ x. (x.0.items, x.1.now)) result (list bytes.now) }
 {
     let (count, rest) = small_at(bytes)?;
     let (all, rest) = numbers_at(alloc, count, rest)?;
@@ -168,7 +171,8 @@ fn list_at(alloc: Global, bytes: &[u8]) -> Result<(Vec<u32>, &[u8]), FormatStop>
 }
 
 fn numbers_at(alloc: Global, count: u32, bytes: &[u8]) -> Result<(Vec<u32>, &[u8]), ReadStop>
-    ensures { Gives (λ x. (x.0.items, x.1.now)) result (numbers count bytes.now) }
+    ensures { AnswersUnlessFull read_stop (λ x. (x.0.items, x.1.now)) result
+        (numbers count bytes.now) }
 {
     let mut all = Vec::new(alloc);
     let mut rest = bytes;
@@ -178,7 +182,7 @@ fn numbers_at(alloc: Global, count: u32, bytes: &[u8]) -> Result<(Vec<u32>, &[u8
                 all.push(number)?;
                 rest = after;
             }
-            Err(stop) => return Err(stop),
+            Err(stop) => return Err(ReadStop::from(stop)),
         }
     }
     Ok((all, rest))
@@ -189,7 +193,8 @@ fn footprints_at(
     count: u32,
     bytes: &[u8],
 ) -> Result<(Vec<Footprint>, &[u8]), FormatStop>
-    ensures { Answers (λ x. (x.0.items, x.1.now)) result (many footprint_or_later count bytes.now) }
+    ensures { AnswersUnlessFull format_stop (λ x. (x.0.items, x.1.now)) result
+        (many footprint count bytes.now) }
 {
     let mut footprints: Vec<Footprint> = Vec::new(alloc);
     let mut rest = bytes;
@@ -206,7 +211,8 @@ fn footprints_at(
 }
 
 fn receipts_at(alloc: Global, count: u32, bytes: &[u8]) -> Result<(Vec<Receipt>, &[u8]), FormatStop>
-    ensures { Answers (λ x. (x.0.items, x.1.now)) result (many receipt count bytes.now) }
+    ensures { AnswersUnlessFull format_stop (λ x. (x.0.items, x.1.now)) result
+        (many receipt count bytes.now) }
 {
     let mut receipts = Vec::new(alloc);
     let mut rest = bytes;
@@ -216,15 +222,15 @@ fn receipts_at(alloc: Global, count: u32, bytes: &[u8]) -> Result<(Vec<Receipt>,
                 receipts.push(receipt)?;
                 rest = after;
             }
-            Err(stop) => return Err(stop),
+            Err(stop) => return Err(FormatStop::from(stop)),
         }
     }
     Ok((receipts, rest))
 }
 
 #[tactic(auto, unfolding(crate::specs::Reading::receipt))]
-fn receipt_at(bytes: &[u8]) -> Result<(Receipt, &[u8]), FormatStop>
-    ensures { Answers (λ x. (x.0, x.1.now)) result (receipt bytes.now) }
+fn receipt_at(bytes: &[u8]) -> Result<(Receipt, &[u8]), FieldStop>
+    ensures { Answers field_stop (λ x. (x.0, x.1.now)) result (receipt bytes.now) }
 {
     let (tag, rest) = tag_at(bytes)?;
     let (gas, rest) = u32_at(rest)?;
@@ -233,24 +239,24 @@ fn receipt_at(bytes: &[u8]) -> Result<(Receipt, &[u8]), FormatStop>
 }
 
 /// The tag of a receipt.
-fn tag_at(bytes: &[u8]) -> Result<(u8, &[u8]), FormatStop>
-    ensures { Answers (λ x. (x.0, x.1.now)) result (tag bytes.now) }
+fn tag_at(bytes: &[u8]) -> Result<(u8, &[u8]), FieldStop>
+    ensures { Answers field_stop (λ x. (x.0, x.1.now)) result (tag bytes.now) }
 {
     let (number, rest) = u8_at(bytes)?;
     match number {
         0 | 1 => Ok((number, rest)),
-        2..=14 => Err(FormatStop::NotYet(bytes.len())),
-        _ => Err(FormatStop::Left(bytes.len())),
+        2..=14 => Err(FieldStop::NotYet(bytes.len())),
+        _ => Err(FieldStop::Left(bytes.len())),
     }
 }
 
 /// A number of at most 512.
-fn small_at(bytes: &[u8]) -> Result<(u32, &[u8]), FormatStop>
-    ensures { Answers (λ x. (x.0, x.1.now)) result (small bytes.now) }
+fn small_at(bytes: &[u8]) -> Result<(u32, &[u8]), FieldStop>
+    ensures { Answers field_stop (λ x. (x.0, x.1.now)) result (small bytes.now) }
 {
     let (number, rest) = u32_at(bytes)?;
     if number > 512 {
-        return Err(FormatStop::Left(bytes.len()));
+        return Err(FieldStop::Left(bytes.len()));
     }
     Ok((number, rest))
 }

@@ -1,7 +1,7 @@
 -- Numbers as bytes, the highest first, at each width.
 use Rattle.std.proofs.Common.{◌≡◌, ℕ, zero, suc, ◌+◌, ◌*◌, ◌/◌, ◌%◌, ◌^◌, ◌<◌, ◌≤◌, List, [], ◌∷◌, length, get_or, refl, sym, ap, subst, ◌∙◌, arith}
-use Rattle.std.specs.Int.{Width, w8, w16, w32, w64, w128, byte_len, byte_at, bytes_high_first, from_be_bytes, to_be_bytes}
-use Rattle.std.proofs.lemmas.Nat.{be_bytes_2, be_bytes_4, be_bytes_8, from_be_bytes-to_be_bytes_2, from_be_bytes-to_be_bytes_4, from_be_bytes-to_be_bytes_8, div-mul-add, mod-mul-add, mod_below, div-add-mod', mul-le}
+use Rattle.std.specs.Int.{Width, w8, w32, w64, w128, byte_len, byte_at, bytes_high_first, from_be_bytes, to_be_bytes}
+use Rattle.std.proofs.lemmas.Nat.{be_bytes_4, be_bytes_8, from_be_bytes-to_be_bytes_4, from_be_bytes-to_be_bytes_8, div-mul-add, mod-mul-add, mod_below, div-add-mod', mul-le}
 use Rattle.std.proofs.Math.Nat.{pow-suc}
 use Rattle.byte_fields.specs.Laws.{IsBytes}
 
@@ -34,15 +34,6 @@ wide8 = record {
   again = λ n lt. omega arith;
   below = λ bytes len fits. omega (arith, fits 0);
   fits = IsBytes-high_first 1;
-}
-
-pub wide16 : IsWide w16 (2 ^ 16)
-wide16 = record {
-  len = λ n. refl;
-  back = λ bytes len fits. be_bytes_2 bytes _ len fits refl;
-  again = λ n lt. from_be_bytes-to_be_bytes_2 n lt;
-  below = λ bytes len fits. omega (arith, fits 0, fits 1);
-  fits = IsBytes-high_first 2;
 }
 
 pub wide32 : IsWide w32 (2 ^ 32)

@@ -1,8 +1,9 @@
 -- The law of readers that are made of others: tests, values made of what is read, one thing after another.
 use Rattle.std.proofs.Common.{◌≡◌, ℕ, Bool, List, [], ◌++◌, length, Ok, refl, sym, ap, subst, ◌∙◌, append_assoc, arith}
 use Rattle.std.specs.Prelude.{IsTrue}
-use Rattle.byte_fields.specs.Readers.{given, Read, Reader, made, both, with, checked}
-use Rattle.byte_fields.specs.Laws.{IsBytes, Takes, OneSpelling, IsWithin, Reads}
+use Rattle.byte_fields.specs.Stops.{Kind, Faulty, NotYet, Stopped}
+use Rattle.byte_fields.specs.Readers.{given, Read, Reader, made, both, with, tested, checked, built}
+use Rattle.byte_fields.specs.Laws.{IsBytes, Takes, OneSpelling, IsWithin, Reads, ReadsExactly}
 use Rattle.byte_fields.proofs.Steps.{after_ok, ok_is, test_ok, passes, Takes-then, within_after, within_test, IsWithin-more}
 
 -- ---- the same reader, by another spelling or in other words
@@ -29,16 +30,22 @@ given_reads {A} a = record {
 
 -- ---- tests
 
-pub checked_reads : {A : Type 0} {read : Reader A} {spell : A → List ℕ} {Good : A → Type 0} (test : A → Bool) → Reads read spell Good → Reads (checked test read) spell (λ a. Good a × IsTrue (test a))
-checked_reads {A} {read} {spell} {Good} test r = record {
+pub tested_reads : {A : Type 0} {read : Reader A} {spell : A → List ℕ} {Good : A → Type 0} (kind : Kind) (test : A → Bool) → Reads read spell Good → Reads (tested kind test read) spell (λ a. Good a × IsTrue (test a))
+tested_reads {A} {read} {spell} {Good} kind test r = record {
   takes = λ bytes a rest fits e.
       let s = after_ok (read bytes) _ a rest e in
       let t = r.takes bytes s.value s.rest fits s.was in
-      let p = test_ok (test s.value) (length bytes) (s.value, s.rest) (a, rest) s.then_is in
+      let p = test_ok (test s.value) (Stopped kind (length bytes)) (s.value, s.rest) (a, rest) s.then_is in
       subst (λ (y : A × List ℕ). Takes bytes (spell y.0) y.1 × (Good y.0 × IsTrue (test y.0))) p.1 (t.0, (t.1, p.0));
   again = λ a rest good. rw (r.again a rest good.0) (passes (test a) _ (a, rest) good.1);
-  within = λ bytes. within_after (length bytes) (read bytes) _ (r.within bytes) (λ a rest le. within_test (test a) (length bytes) a rest le);
+  within = λ bytes. within_after (length bytes) (read bytes) _ (r.within bytes) (λ a rest le. within_test kind (test a) (length bytes) a rest le);
 }
+
+pub checked_reads : {A : Type 0} {read : Reader A} {spell : A → List ℕ} {Good : A → Type 0} (test : A → Bool) → Reads read spell Good → Reads (checked test read) spell (λ a. Good a × IsTrue (test a))
+checked_reads = tested_reads Faulty
+
+pub built_reads : {A : Type 0} {read : Reader A} {spell : A → List ℕ} {Good : A → Type 0} (test : A → Bool) → Reads read spell Good → Reads (built test read) spell (λ a. Good a × IsTrue (test a))
+built_reads = tested_reads NotYet
 
 -- ---- a value that is made of what is read
 
@@ -119,6 +126,13 @@ with_reads {A} {B} {read} {spell} {Good} {read'} {spell'} {Good'} r r' key key_i
 
 ok_parts : {A : Type 0} (a b : A) (x y : List ℕ) → Path (Read A) (Ok (a, x)) (Ok (b, y)) → (a ≡ b) × (x ≡ y)
 ok_parts {A} a b x y e = let is = ok_is (a, x) (b, y) e in (ap (λ (p : A × List ℕ). p.0) is, ap (λ (p : A × List ℕ). p.1) is)
+
+-- what is read is what is spelt
+pub reads_exactly : {A : Type 0} {read : Reader A} {spell : A → List ℕ} {Good : A → Type 0} → Reads read spell Good → ReadsExactly read spell Good
+reads_exactly {A} {read} r bytes a rest fits = (
+  λ e. let t = r.takes bytes a rest fits e in (t.0.parts, t.1),
+  λ h. ap read h.0 ∙ r.again a rest h.1,
+)
 
 -- no spelling begins another, so each value has one
 pub one_spelling : {A : Type 0} {read : Reader A} {spell : A → List ℕ} {Good : A → Type 0} → Reads read spell Good → OneSpelling spell Good

@@ -1,10 +1,9 @@
 -- Reading one item after another, as a loop does.
-use Rattle.std.proofs.Common.{◌≡◌, ℕ, suc, ◌-◌, ◌+◌, ◌≤◌, ◌<◌, List, [], ◌∷◌, ◌++◌, Ok, Err, refl, sym, ap, ◌∙◌, append_assoc, arith}
+use Rattle.std.proofs.Common.{◌≡◌, ℕ, suc, ◌-◌, ◌+◌, ◌≤◌, ◌<◌, List, [], ◌∷◌, ◌++◌, Option, Some, None, Ok, Err, refl, sym, ap, ◌∙◌, append_assoc, arith}
 use Rattle.std.proofs.lemmas.List.{append-nil}
-use Rattle.byte_fields.specs.declared.fault.ReadStop.{ReadStop}
-use Rattle.byte_fields.specs.declared.fault.ReadStop.TheVariants as stops
+use Rattle.byte_fields.specs.Stops.{Stop}
 use Rattle.byte_fields.specs.Readers.{Read, Reader, after, chained}
-use Rattle.byte_fields.specs.Told.{Fails}
+use Rattle.byte_fields.specs.Told.{IsStop}
 
 -- what was read before, and what is still read
 abbrev pub with_front : {A : Type 0} → List A → Read (List A) → Read (List A)
@@ -25,14 +24,18 @@ goes_on read next state then_state front count i bytes a rest total lt was next_
     rw (left, was) (regroup front a (chained read next (next state a) (count - (i + 1)) rest)) in
     ap (λ s. with_front (front ++ a ∷ []) (chained read next s (count - (i + 1)) rest)) (sym next_is) ∙ sym one ∙ so_far
 
--- a fault of the next item is one of the list
-pub ends : {S A : Type 0} (e : ReadStop) (read : S → Reader A) (next : S → A → S) (state : S) (front : List A) (count i : ℕ) (bytes : List ℕ) (total : Read (List A)) →
-    i < count → Fails e (read state bytes) → with_front front (chained read next state (count - i) bytes) ≡ total → Fails e total
-ends stops.NoMemory read next state front count i bytes total lt fails so_far = tt
-ends (stops.Left n) read next state front count i bytes total lt fails so_far =
+-- a stop of the next item is one of the list
+pub stops : {S A : Type 0} (stop : Stop) (read : S → Reader A) (next : S → A → S) (state : S) (front : List A) (count i : ℕ) (bytes : List ℕ) (total : Read (List A)) →
+    i < count → read state bytes ≡ Err stop → with_front front (chained read next state (count - i) bytes) ≡ total → total ≡ Err stop
+stops stop read next state front count i bytes total lt stopped so_far =
     let left : count - i ≡ suc (count - (i + 1)) = omega arith in
-    let one : with_front front (chained read next state (count - i) bytes) ≡ Err n = rw (left, fails) refl in
+    let one : with_front front (chained read next state (count - i) bytes) ≡ Err stop = rw (left, stopped) refl in
     sym so_far ∙ one
+
+pub ends : {S A : Type 0} (stop : Option Stop) (read : S → Reader A) (next : S → A → S) (state : S) (front : List A) (count i : ℕ) (bytes : List ℕ) (total : Read (List A)) →
+    i < count → IsStop stop (read state bytes) → with_front front (chained read next state (count - i) bytes) ≡ total → IsStop stop total
+ends None read next state front count i bytes total lt stopped so_far = tt
+ends (Some stop) read next state front count i bytes total lt stopped so_far = stops stop read next state front count i bytes total lt stopped so_far
 
 -- no item is left
 pub is_done : {S A : Type 0} (read : S → Reader A) (next : S → A → S) (state : S) (front : List A) (count i : ℕ) (bytes : List ℕ) (total : Read (List A)) →

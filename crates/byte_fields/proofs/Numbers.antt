@@ -8,10 +8,11 @@ use Rattle.std.specs.Int.{Width, byte_len, from_be_bytes, to_be_bytes, cast_sign
 use Rattle.std.proofs.lemmas.Int.{to_z-of_z, of_z-to_z}
 use Rattle.std.proofs.Math.Facts.{sfits_to_z, Fits-of_z}
 use mir.Val.{bits}
-use Rattle.byte_fields.specs.Readers.{run, number, signed, mark}
+use Rattle.byte_fields.specs.Stops.{Faulty, Stopped}
+use Rattle.byte_fields.specs.Readers.{Reader, run, number, signed, mark, behind}
 use Rattle.byte_fields.specs.Laws.{IsBytes, Takes, IsWithin, Reads}
 use Rattle.byte_fields.proofs.Steps.{IsBytes-take, IsBytes-drop, guard_ok, within_guard}
-use Rattle.byte_fields.proofs.Joined.{made_reads, checked_reads}
+use Rattle.byte_fields.proofs.Joined.{made_reads, checked_reads, both_reads}
 use Rattle.byte_fields.proofs.Digits.{IsWide}
 
 -- ---- runs
@@ -23,7 +24,7 @@ pub record IsRun (n : ℕ) (text : List ℕ) : Type 0 where
 
 run_takes : (n : ℕ) (bytes text rest : List ℕ) → IsBytes bytes → run n bytes ≡ Ok (text, rest) → Takes bytes text rest × IsRun n text
 run_takes n bytes text rest fits e =
-    let g = guard_ok (ltb (length bytes) n) (length bytes) (take n bytes, drop n bytes) (text, rest) e in
+    let g = guard_ok (ltb (length bytes) n) (Stopped Faulty (length bytes)) (take n bytes, drop n bytes) (text, rest) e in
     let long : n ≤ length bytes = ltb-false _ _ g.0 in
     let text-is : take n bytes ≡ text = ap (λ (p : List ℕ × List ℕ). p.0) g.1 in
     let rest-is : drop n bytes ≡ rest = ap (λ (p : List ℕ × List ℕ). p.1) g.1 in (
@@ -37,7 +38,7 @@ run_again n text rest len =
     rw (long, take_at text rest n len, drop_at text rest n len) refl
 
 run_within : (n : ℕ) (bytes : List ℕ) → IsWithin (length bytes) (run n bytes)
-run_within n bytes = within_guard (ltb (length bytes) n) (length bytes) _ _ (omega (arith, length-drop n bytes))
+run_within n bytes = within_guard Faulty (ltb (length bytes) n) (length bytes) _ _ (omega (arith, length-drop n bytes))
 
 -- a run is known to be bytes only where it is read
 pub run_reads : (n : ℕ) → Reads (run n) (λ text. text) (λ text. length text ≡ n)
@@ -73,3 +74,8 @@ mark_reads text = made_reads (λ front. tt) (λ u. text) (λ u. text) (λ u. Uni
     (λ front good. (sym ((bytes_eq-Decides text front).0 good.1), tt))
     (λ u good. ((refl, (bytes_eq-Decides text text).1 refl), refl))
     (checked_reads (bytes_eq text) (run_reads (length text)))
+
+-- they are no part of the value that stands behind them
+pub behind_reads : {A : Type 0} {read : Reader A} {spell : A → List ℕ} {Good : A → Type 0} (text : List ℕ) → Reads read spell Good → Reads (behind text read) (λ a. text ++ spell a) Good
+behind_reads {A} {read} {spell} {Good} text r =
+    made_reads (λ (p : Unit {0} × A). p.1) (λ a. (tt, a)) (λ a. text ++ spell a) Good (λ p good. (refl, good.1)) (λ a good. ((tt, good), refl)) (both_reads (mark_reads text) r)

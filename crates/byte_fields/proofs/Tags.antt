@@ -23,11 +23,11 @@ pub record Begins {A : Type 0} (is_tag : ℕ → Bool) (behind : ℕ → Reader 
 abbrev pub TakesBehind : {A : Type 0} → Reader A → ℕ → (A → List ℕ) → (A → Type 0) → Type 0
 TakesBehind {A} read tag spell Good = (bytes : List ℕ) (a : A) (rest : List ℕ) → IsBytes bytes → read bytes ≡ Ok (a, rest) → Takes (tag ∷ bytes) (spell a) rest × Good a
 
-one_byte : (n : ℕ) → n < 256 → to_be_bytes w8 n ≡ n ∷ []
+pub one_byte : (n : ℕ) → n < 256 → to_be_bytes w8 n ≡ n ∷ []
 one_byte n lt = let small : n % 256 ≡ n = omega arith in ap (λ (m : ℕ). m ∷ []) small
 
 pub tagged_reads : {A : Type 0} {is_tag : ℕ → Bool} {behind : ℕ → Reader A} {spell : A → List ℕ} {Good : A → Type 0} →
-    ((t : ℕ) → TakesBehind (behind t) t spell Good) → ((a : A) → Good a → Begins is_tag behind spell a) → ((t : ℕ) (bytes : List ℕ) → IsWithin (length bytes) (behind t bytes)) →
+    ((t : ℕ) → IsTrue (is_tag t) → TakesBehind (behind t) t spell Good) → ((a : A) → Good a → Begins is_tag behind spell a) → ((t : ℕ) (bytes : List ℕ) → IsWithin (length bytes) (behind t bytes)) →
     Reads (tagged is_tag behind) spell Good
 tagged_reads {A} {is_tag} {behind} {spell} {Good} takes begins within =
     let tags = checked_reads is_tag (number_reads w8 (2 ^ 8) wide8) in
@@ -36,7 +36,7 @@ tagged_reads {A} {is_tag} {behind} {spell} {Good} takes begins within =
           let s = after_ok (checked is_tag (number w8) bytes) _ a rest e in
           let t = tags.takes bytes s.value s.rest fits s.was in
           let whole : bytes ≡ s.value ∷ s.rest = t.0.parts ∙ ap (λ (l : List ℕ). l ++ s.rest) (one_byte s.value (omega (arith, t.1.0))) in
-          subst (λ (l : List ℕ). Takes l (spell a) rest × Good a) (sym whole) (takes s.value s.rest a rest t.0.rest_fits s.then_is);
+          subst (λ (l : List ℕ). Takes l (spell a) rest × Good a) (sym whole) (takes s.value t.1.1 s.rest a rest t.0.rest_fits s.then_is);
       again = λ a rest good.
           let b = begins a good in
           let front : spell a ++ rest ≡ to_be_bytes w8 b.tag ++ (b.text ++ rest) = ap (λ (l : List ℕ). l ++ rest) b.spelt ∙ ap (λ (l : List ℕ). l ++ (b.text ++ rest)) (sym (one_byte b.tag b.small)) in
@@ -77,11 +77,12 @@ given_takes {B} tag spell Good b spelt good bytes b' rest fits e =
     subst (λ (y : B × List ℕ). Takes (tag ∷ bytes) (spell y.0) y.1 × Good y.0) (ok_is (b, bytes) (b', rest) e)
     (record { parts = rw spelt refl; rest_fits = fits }, good)
 
--- the row of its tag in a chain of tests, and the rest of the chain
-pub at_tag : {A : Type 0} (t k : ℕ) {x y : Reader A} {spell : A → List ℕ} {Good : A → Type 0} → TakesBehind x k spell Good → TakesBehind y t spell Good → TakesBehind (cond (eqb t k) x y) t spell Good
-at_tag {A} t k {x} {y} {spell} {Good} row others =
-    let chosen : (b : Bool) → eqb t k ≡ b → TakesBehind (cond b x y) t spell Good = λ b. elim b as (λ b. eqb t k ≡ b → TakesBehind (cond b x y) t spell Good) [
-      | true ↦ λ is. subst (λ (n : ℕ). TakesBehind x n spell Good) (sym (eqb-true t k is)) row
+-- the row of its tag, where that may stand, in a chain of tests, and the rest of the chain
+pub at_tag : {A : Type 0} (is_tag : ℕ → Bool) (t k : ℕ) {x y : Reader A} {spell : A → List ℕ} {Good : A → Type 0} →
+    (IsTrue (is_tag k) → TakesBehind x k spell Good) → (IsTrue (is_tag t) → TakesBehind y t spell Good) → IsTrue (is_tag t) → TakesBehind (cond (eqb t k) x y) t spell Good
+at_tag {A} is_tag t k {x} {y} {spell} {Good} row others =
+    let chosen : (b : Bool) → eqb t k ≡ b → IsTrue (is_tag t) → TakesBehind (cond b x y) t spell Good = λ b. elim b as (λ b. eqb t k ≡ b → IsTrue (is_tag t) → TakesBehind (cond b x y) t spell Good) [
+      | true ↦ λ is. subst (λ (n : ℕ). IsTrue (is_tag n) → TakesBehind x n spell Good) (sym (eqb-true t k is)) row
       | false ↦ λ is. others
     ] in
     chosen (eqb t k) refl

@@ -1,7 +1,7 @@
 //! A text in the making, which a writer that fails in the middle can take back.
 
 ghost use Rattle.std.specs.Prelude.{◌≡◌, [], ◌∷◌, ◌++◌, OnOk, OnErr};
-ghost use Rattle.std.specs.Int.{w8, w16, w32, w64, w128, to_be_bytes, cast_unsigned};
+ghost use Rattle.std.specs.Int.{w32, w64, w128, to_be_bytes, cast_unsigned};
 
 use std::alloc::{AllocError, Global};
 use std::marker::Model;
@@ -67,22 +67,6 @@ impl Draft {
         self.bytes.extend_from_slice(text)
     }
 
-    /// Adds a number of two bytes, the high one first.
-    pub fn put_u16(&mut self, number: u16) -> Result<(), AllocError>
-        ensures added { OnOk result (self.new.added ≡ self.old.added ++ to_be_bytes w16 number) }
-        ensures before { self.new.before ≡ self.old.before }
-    {
-        self.put_run(&number.to_be_bytes())
-    }
-
-    /// Adds a number of four bytes, the highest first.
-    pub fn put_u32(&mut self, number: u32) -> Result<(), AllocError>
-        ensures added { OnOk result (self.new.added ≡ self.old.added ++ to_be_bytes w32 number) }
-        ensures before { self.new.before ≡ self.old.before }
-    {
-        self.put_run(&number.to_be_bytes())
-    }
-
     /// Adds a number of eight bytes, the highest first.
     pub fn put_u64(&mut self, number: u64) -> Result<(), AllocError>
         ensures added { OnOk result (self.new.added ≡ self.old.added ++ to_be_bytes w64 number) }
@@ -92,7 +76,7 @@ impl Draft {
     }
 
     /// Adds a number of sixteen bytes, the highest first.
-    pub fn put_u128(&mut self, number: u128) -> Result<(), AllocError>
+    fn put_u128(&mut self, number: u128) -> Result<(), AllocError>
         ensures added { OnOk result (self.new.added ≡ self.old.added ++ to_be_bytes w128 number) }
         ensures before { self.new.before ≡ self.old.before }
     {
@@ -101,7 +85,8 @@ impl Draft {
 
     /// Adds a number of sixteen bytes in two's complement, the highest first.
     pub fn put_i128(&mut self, number: i128) -> Result<(), AllocError>
-        ensures added { OnOk result (self.new.added ≡ self.old.added ++ to_be_bytes w128 (cast_unsigned w128 number)) }
+        ensures added { OnOk result (self.new.added ≡ self.old.added
+            ++ to_be_bytes w128 (cast_unsigned w128 number)) }
         ensures before { self.new.before ≡ self.old.before }
     {
         self.put_u128(number.cast_unsigned())

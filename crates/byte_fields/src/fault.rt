@@ -1,12 +1,17 @@
 //! Why bytes could not be read.
 
 ghost use Rattle.std.specs.Prelude.{◌≡◌};
-ghost use Rattle.byte_fields.specs.declared.fault.ReadStop.TheVariants.{NoMemory};
+ghost use Rattle.byte_fields.specs.declared.fault.ReadStop.TheVariants as stops;
 ghost use Rattle.byte_fields.specs.Told.{fault_of};
 
 use std::alloc::{AllocError, AllocFailed};
 
-/// Why reading stopped, inside a format.
+/// Where reading stopped, inside a format, of what takes no memory: a field misses bytes or breaks
+/// its rule, and so many bytes are left at its first byte.
+#[derive(Clone, Copy, Debug, PartialEq, Eq)]
+pub struct Left(pub usize);
+
+/// Why reading stopped, inside a format, of what takes memory.
 #[derive(Clone, Copy, Debug, PartialEq, Eq)]
 pub enum ReadStop {
     /// Memory ran out.
@@ -15,8 +20,16 @@ pub enum ReadStop {
     Left(usize),
 }
 
+impl From<Left> for ReadStop {
+    ghost from_gives = { λ left e. e ≡ stops.Left left.0 };
+
+    fn from(left: Left) -> ReadStop {
+        ReadStop::Left(left.0)
+    }
+}
+
 impl From<AllocError> for ReadStop {
-    ghost from_gives = { λ _ e. e ≡ NoMemory };
+    ghost from_gives = { λ _ e. e ≡ stops.NoMemory };
 
     fn from(_e: AllocError) -> ReadStop {
         ReadStop::NoMemory
@@ -24,7 +37,7 @@ impl From<AllocError> for ReadStop {
 }
 
 impl<T: Drop> From<AllocFailed<T>> for ReadStop {
-    ghost from_gives = { λ _ e. e ≡ NoMemory };
+    ghost from_gives = { λ _ e. e ≡ stops.NoMemory };
 
     fn from(_e: AllocFailed<T>) -> ReadStop {
         ReadStop::NoMemory

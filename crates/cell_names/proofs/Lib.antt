@@ -2,8 +2,6 @@ pub mod Ascending
 pub mod Touches
 pub mod Rising
 pub mod Grammar
-pub mod Forget
-pub mod PartTold
-pub mod PartLoops
-pub mod NotYet
 pub mod Later
+pub mod NotYet
+pub mod StopLemmas

@@ -1,188 +1,199 @@
--- What the readers say that tell a kind that isn't built: the same as the others, and where such a kind stands.
-use Rattle.std.proofs.Common.{◌≡◌, ℕ, zero, suc, ◌+◌, ◌-◌, ◌<◌, ◌≤◌, ◌^◌, Bool, true, false, cond, eqb, List, [], ◌∷◌, ◌++◌, length, drop, Option, Some, None, Result, Ok, Err, sym, refl, ap, subst, ◌∙◌, arith, append_assoc, length-append, inl, inr, ◌⊎◌}
-use Rattle.std.specs.Prelude.{IsTrue, nat_le, IfOk}
-use Rattle.std.specs.Int.{w32, to_be_bytes}
+-- Where a cell of a kind stands that isn't built.
+use Rattle.std.proofs.Common.{◌≡◌, ℕ, zero, suc, ◌+◌, ◌-◌, ◌<◌, ◌≤◌, ◌^◌, Bool, true, false, cond, eqb, List, [], ◌∷◌, ◌++◌, length, drop, Option, Some, None, Ok, Err, sym, refl, ap, subst, ◌∙◌, arith, append_assoc, length-append, inl, inr, ◌⊎◌}
+use Rattle.std.specs.Prelude.{IsTrue, nat_le, slice_index, bytes_eq}
+use Rattle.std.specs.Int.{Width, w8, w32, byte_len, from_be_bytes, to_be_bytes}
 use Rattle.std.specs.List.{flat_map}
-use Rattle.std.proofs.lemmas.Bool.{eqb-true, leb-true, le-leb}
-use Rattle.std.proofs.lemmas.List.{length-drop}
+use Rattle.std.proofs.lemmas.Bool.{leb-true, le-leb, eq-eqb}
+use Rattle.std.proofs.lemmas.List.{length-drop, get_or-drop}
 use Rattle.std.proofs.lemmas.List.Concat.{flat_map-cons}
-use Rattle.byte_fields.specs.Readers.{Read, Reader, after, checked, chained, number}
-use Rattle.byte_fields.specs.Told.{placed}
-use Rattle.byte_fields.specs.Laws.{IsBytes, Reads, Spelt, AllAlong}
-use Rattle.byte_fields.specs.declared.fault.At.{At}
-use Rattle.byte_fields.proofs.Steps.{IsBytes-drop}
+use Rattle.byte_fields.specs.Stops.{Faulty, NotYet, Stop, Stopped}
+use Rattle.byte_fields.specs.Readers.{Read, Reader, after, made, both, checked, chained, run, number}
+use Rattle.byte_fields.specs.Laws.{IsBytes, Reads, AllAlong}
+use Rattle.byte_fields.proofs.Steps.{IsBytes-drop, Step, after_stop, test_stop}
 use Rattle.byte_fields.proofs.Joined.{checked_reads}
-use Rattle.byte_fields.proofs.Digits.{wide32}
+use Rattle.byte_fields.proofs.Digits.{wide8, wide32}
 use Rattle.byte_fields.proofs.Numbers.{number_reads}
-use Rattle.byte_fields.proofs.Places.{is_found}
+use Rattle.byte_fields.proofs.Tags.{one_byte}
+use Rattle.value_core.specs.Leaves.{is_address}
+use Rattle.value_codec.specs.Reading.{address}
 use Rattle.cell_names.specs.declared.cell.Cell.{Cell}
+use Rattle.cell_names.specs.declared.cell.Cell.TheVariants.{Balance}
 use Rattle.cell_names.specs.declared.mode.Mode.{Mode}
-use Rattle.cell_names.specs.declared.fault.FormatStop.{FormatStop}
-use Rattle.cell_names.specs.declared.fault.FormatStop.TheVariants as stops
-use Rattle.cell_names.specs.declared.fault.FormatFault.{FormatFault}
-use Rattle.cell_names.specs.declared.fault.FormatFault.TheVariants as faults
-use Rattle.cell_names.specs.Spelling.{spell_cell, spell_touch, spell_footprint, IsCell, IsFootprint, StopsAt}
-use Rattle.cell_names.specs.Partial.{Reading, field, then_read}
-use Rattle.cell_names.specs.Answers.{told_in, IsTold, Places, IsNotYet, IfNotYet}
-use Rattle.cell_names.specs.Reading.{behind_kind, cell, mode, is_above, touch, next_last, footprint, cell_or_later, touch_or_later, touches_or_later, footprint_or_later}
+use Rattle.cell_names.specs.Spelling.{spell_touch, IsLaterKind, StopsAt}
+use Rattle.cell_names.specs.Reading.{kind, cell, mode_of_byte, mode, is_above, touch, next_last, footprint}
 use Rattle.cell_names.proofs.Rising.{IsNext, touches_from_next, next_from_touches}
-use Rattle.cell_names.proofs.Grammar.{touch_reads, footprint_reads, cell_reads}
-use Rattle.cell_names.proofs.Forget.{forget, forget-then, forget-field, forget_ok, after-after, ReadsPart}
-use Rattle.cell_names.proofs.PartTold.{places, if_not_yet, is_not_yet}
+use Rattle.cell_names.proofs.Grammar.{touch_reads}
 
--- ---- without the difference of faults
+-- the stop at a field that isn't built
+abbrev later : {A : Type 0} → ℕ → Read A
+later left = Err (Stopped NotYet left)
 
-forget-behind : (kind : ℕ) (bytes : List ℕ) (one two : Bool) → eqb kind 1 ≡ one → eqb kind 2 ≡ two →
-    forget (cond {A = Reading Cell} one (Err (stops.NotYet (suc (length bytes)))) (cond {A = Reading Cell} two (Err (stops.NotYet (suc (length bytes)))) (field (behind_kind kind bytes)))) ≡ behind_kind kind bytes
-forget-behind kind bytes true two is is2 = subst (λ (k : ℕ). Err (suc (length bytes)) ≡ behind_kind k bytes) (sym (eqb-true kind 1 is)) refl
-forget-behind kind bytes false true is is2 = subst (λ (k : ℕ). Err (suc (length bytes)) ≡ behind_kind k bytes) (sym (eqb-true kind 2 is2)) refl
-forget-behind kind bytes false false is is2 = forget-field (behind_kind kind bytes)
+ok_is_no_stop : {A : Type 0} {x : A × List ℕ} {stop : Stop} → ◌≡◌ {A = Read A} (Ok x) (Err stop) → ⊥
+ok_is_no_stop e = cc
 
-pub forget-cell : (bytes : List ℕ) → forget (cell_or_later bytes) ≡ cell bytes
-forget-cell [] = refl
-forget-cell (kind ∷ bytes) = forget-behind kind bytes (eqb kind 1) (eqb kind 2) refl refl
+-- ---- readers that are all built
 
-mode_then : (c : Cell) (r : Read Mode) → forget {A = Cell × Mode} (then_read {B = Cell × Mode} (field r) (λ m end. Ok ((c, m), end))) ≡ after {B = Cell × Mode} r (λ m end. Ok ((c, m), end))
-mode_then c (Ok x) = refl
-mode_then c (Err n) = refl
+abbrev IsBuilt : {A : Type 0} → Reader A → Type 0
+IsBuilt {A} read = (bytes : List ℕ) (left : ℕ) → read bytes ≡ later left → ⊥
 
-touch_then : (last : Option Cell) (bytes : List ℕ) (c : Cell) (rest : List ℕ) (b : Bool) →
-    forget {A = Cell × Mode} (cond {A = Reading (Cell × Mode)} b (then_read (field (mode rest)) (λ m end. Ok ((c, m), end))) (Err (stops.Left (length bytes)))) ≡
-    after (cond {A = Read Cell} b (Ok (c, rest)) (Err (length bytes))) (λ c rest. after (mode rest) (λ m end. Ok ((c, m), end)))
-touch_then last bytes c rest true = mode_then c (mode rest)
-touch_then last bytes c rest false = refl
+fault_built : {A : Type 0} (b : Bool) (n left : ℕ) (x : A × List ℕ) → cond {A = Read A} b (Err (Stopped Faulty n)) (Ok x) ≡ later left → ⊥
+fault_built true n left x e = absurd cc
+fault_built false n left x e = absurd cc
 
-pub forget-touch : (last : Option Cell) (bytes : List ℕ) → forget (touch_or_later last bytes) ≡ touch last bytes
-forget-touch last bytes =
-    forget-then (cell_or_later bytes) (λ c rest. cond {A = Reading (Cell × Mode)} (is_above last c) (then_read (field (mode rest)) (λ m end. Ok ((c, m), end))) (Err (stops.Left (length bytes))))
-    ∙ (λ i. after (forget-cell bytes i) (λ c rest. touch_then last bytes c rest (is_above last c) i))
-    ∙ after-after (cell bytes) (λ c rest. cond {A = Read Cell} (is_above last c) (Ok (c, rest)) (Err (length bytes))) (λ c rest. after (mode rest) (λ m end. Ok ((c, m), end)))
+test_built : {A : Type 0} (b : Bool) (n left : ℕ) (x : A × List ℕ) → cond {A = Read A} b (Ok x) (Err (Stopped Faulty n)) ≡ later left → ⊥
+test_built true n left x e = absurd cc
+test_built false n left x e = absurd cc
 
-pub forget-touches : (last : Option Cell) (n : ℕ) (bytes : List ℕ) → forget (touches_or_later last n bytes) ≡ chained touch next_last last n bytes
-forget-touches last zero bytes = refl
-forget-touches last (suc n) bytes =
-    forget-then (touch_or_later last bytes) (λ t rest. then_read (touches_or_later (Some t.0) n rest) (λ ts end. Ok (t ∷ ts, end)))
-    ∙ (λ i. after (forget-touch last bytes i) (λ t rest. (forget-then (touches_or_later (Some t.0) n rest) (λ ts end. Ok (t ∷ ts, end)) ∙ ap (λ (q : Read (List (Cell × Mode))). after q (λ ts end. Ok (t ∷ ts, end))) (forget-touches (Some t.0) n rest)) i))
+run_built : (n : ℕ) → IsBuilt (run n)
+run_built n bytes left e = fault_built _ (length bytes) left _ e
 
-pub forget-footprint : (bytes : List ℕ) → forget (footprint_or_later bytes) ≡ footprint bytes
-forget-footprint bytes =
-    forget-then (field (checked (λ n. nat_le n 256) (number w32) bytes)) (λ n rest. touches_or_later None n rest)
-    ∙ (λ i. after (forget-field (checked (λ n. nat_le n 256) (number w32) bytes) i) (λ n rest. forget-touches None n rest i))
+made_built : {A B : Type 0} (f : A → B) (read : Reader A) → IsBuilt read → IsBuilt (made f read)
+made_built f read built bytes left e = elim (after_stop (read bytes) _ (Stopped NotYet left) e) [
+  | inl at ↦ built bytes left at
+  | inr s ↦ absurd (ok_is_no_stop s.then_is)
+]
 
--- so cells and footprints have the law of readers
-pub reads_cell : ReadsPart cell_or_later spell_cell IsCell
-reads_cell = record { law = subst (λ (read : Reader Cell). Reads read spell_cell IsCell) (λ i bytes. sym (forget-cell bytes) i) cell_reads }
+checked_built : {A : Type 0} (test : A → Bool) (read : Reader A) → IsBuilt read → IsBuilt (checked test read)
+checked_built test read built bytes left e = elim (after_stop (read bytes) _ (Stopped NotYet left) e) [
+  | inl at ↦ built bytes left at
+  | inr s ↦ test_built (test s.value) (length bytes) left (s.value, s.rest) s.then_is
+]
 
-pub reads_footprint : ReadsPart footprint_or_later spell_footprint IsFootprint
-reads_footprint = record { law = subst (λ (read : Reader (List (Cell × Mode))). Reads read spell_footprint IsFootprint) (λ i bytes. sym (forget-footprint bytes) i) footprint_reads }
+number_built : (w : Width) → IsBuilt (number w)
+number_built w = made_built (from_be_bytes w) (run (byte_len w)) (run_built (byte_len w))
 
--- ---- where a kind stands that isn't built
+address_built : IsBuilt address
+address_built = checked_built is_address (run 22) (run_built 22)
 
-pub record Later (last : Option Cell) (n : ℕ) (bytes : List ℕ) (left : ℕ) : Type 0 where
-  pub before : List (Cell × Mode)
-  pub kind : ℕ
-  pub behind : List ℕ
-  pub more : length before < n
-  pub along : AllAlong IsNext next_last last before
-  pub later : (kind ≡ 1) ⊎ (kind ≡ 2)
-  pub parts : bytes ≡ flat_map spell_touch before ++ kind ∷ behind
-  pub left_is : left ≡ suc (length behind)
+mode_built : IsBuilt mode
+mode_built = made_built mode_of_byte (checked (λ b. nat_le b 2) (number w8)) (checked_built (λ b. nat_le b 2) (number w8) (number_built w8))
 
-stop_is : {A : Type 0} (m n : ℕ) → ◌≡◌ {A = Reading A} (Err (stops.NotYet m)) (Err (stops.NotYet n)) → n ≡ m
-stop_is m n e = cc
+-- ---- a cell
 
-field_later : {A : Type 0} (r : Read A) (n : ℕ) → field r ≡ Err (stops.NotYet n) → ⊥
-field_later (Ok x) n e = cc
-field_later (Err k) n e = cc
+-- a kind that isn't built stands in front
+record KindStands (bytes : List ℕ) (left : ℕ) : Type 0 where
+  kind_of : ℕ
+  behind : List ℕ
+  is_later : IsLaterKind kind_of
+  parts : bytes ≡ kind_of ∷ behind
+  left_is : left ≡ suc (length behind)
 
-pub record KindStands (bytes : List ℕ) (left : ℕ) : Type 0 where
-  pub kind : ℕ
-  pub behind : List ℕ
-  pub later : (kind ≡ 1) ⊎ (kind ≡ 2)
-  pub parts : bytes ≡ kind ∷ behind
-  pub left_is : left ≡ suc (length behind)
+abbrev known : Reader ℕ
+known = checked (λ k. nat_le k 2) (number w8)
 
-kind_by : (kind : ℕ) (bytes : List ℕ) (left : ℕ) (one two : Bool) → eqb kind 1 ≡ one → eqb kind 2 ≡ two →
-    cond {A = Reading Cell} one (Err (stops.NotYet (suc (length bytes)))) (cond {A = Reading Cell} two (Err (stops.NotYet (suc (length bytes)))) (field (behind_kind kind bytes))) ≡ Err (stops.NotYet left) → KindStands (kind ∷ bytes) left
-kind_by kind bytes left true two is is2 e = record { kind = kind; behind = bytes; later = inl (eqb-true kind 1 is); parts = refl; left_is = stop_is (suc (length bytes)) left e }
-kind_by kind bytes left false true is is2 e = record { kind = kind; behind = bytes; later = inr (eqb-true kind 2 is2); parts = refl; left_is = stop_is (suc (length bytes)) left e }
-kind_by kind bytes left false false is is2 e = absurd (field_later (behind_kind kind bytes) left e)
+known_reads : Reads known (to_be_bytes w8) (λ k. (k < 2 ^ 8) × IsTrue (nat_le k 2))
+known_reads = checked_reads (λ k. nat_le k 2) (number_reads w8 (2 ^ 8) wide8)
 
-pub cell_later : (bytes : List ℕ) (left : ℕ) → cell_or_later bytes ≡ Err (stops.NotYet left) → KindStands bytes left
-cell_later [] left e = absurd cc
-cell_later (kind ∷ bytes) left e = kind_by kind bytes left (eqb kind 1) (eqb kind 2) refl refl e
+is_later_kind : (k : ℕ) → k ≤ 2 → eqb k 0 ≡ false → IsLaterKind k
+is_later_kind zero le other = absurd cc
+is_later_kind (suc zero) le other = inl refl
+is_later_kind (suc (suc zero)) le other = inr refl
+is_later_kind (suc (suc (suc k))) le other = absurd (omega arith)
 
-mode_later : (c : Cell) (r : Read Mode) (left : ℕ) → then_read {B = Cell × Mode} (field r) (λ m end. Ok ((c, m), end)) ≡ Err (stops.NotYet left) → ⊥
-mode_later c (Ok x) left e = cc
-mode_later c (Err n) left e = cc
+kind_stands : (bytes : List ℕ) (left : ℕ) → IsBytes bytes → kind bytes ≡ later left → KindStands bytes left
+kind_stands bytes left fits e = elim (after_stop (known bytes) _ (Stopped NotYet left) e) [
+  | inl at ↦ absurd (checked_built (λ k. nat_le k 2) (number w8) (number_built w8) bytes left at)
+  | inr s ↦
+      let t = known_reads.takes bytes s.value s.rest fits s.was in
+      let p = test_stop (eqb s.value 0) (Stopped NotYet (length bytes)) (Stopped NotYet left) (s.value, s.rest) s.then_is in
+      let all : length bytes ≡ left = cc p.1 in
+      let parts : bytes ≡ s.value ∷ s.rest = t.0.parts ∙ ap (λ (l : List ℕ). l ++ s.rest) (one_byte s.value (omega (arith, t.1.0))) in
+      record { kind_of = s.value; behind = s.rest; is_later = is_later_kind s.value (leb-true s.value 2 t.1.1) p.0; parts = parts; left_is = sym all ∙ ap length parts }
+]
 
-above_later : (b : Bool) (c : Cell) (rest bytes : List ℕ) (left : ℕ) → cond {A = Reading (Cell × Mode)} b (then_read (field (mode rest)) (λ m end. Ok ((c, m), end))) (Err (stops.Left (length bytes))) ≡ Err (stops.NotYet left) → ⊥
-above_later true c rest bytes left e = mode_later c (mode rest) left e
-above_later false c rest bytes left e = cc
+cell_stops : (bytes : List ℕ) (left : ℕ) → IsBytes bytes → cell bytes ≡ later left → KindStands bytes left
+cell_stops bytes left fits e = elim (after_stop (both kind address bytes) _ (Stopped NotYet left) e) [
+  | inr s ↦ absurd (ok_is_no_stop s.then_is)
+  | inl first ↦ elim (after_stop (kind bytes) _ (Stopped NotYet left) first) [
+    | inl at ↦ kind_stands bytes left fits at
+    | inr s ↦ elim (after_stop (address s.rest) _ (Stopped NotYet left) s.then_is) [
+      | inl at ↦ absurd (address_built s.rest left at)
+      | inr u ↦ absurd (ok_is_no_stop u.then_is)
+    ]
+  ]
+]
 
-touch_by : (last : Option Cell) (bytes : List ℕ) (left : ℕ) (r : Reading Cell) → cell_or_later bytes ≡ r →
-    then_read r (λ c rest. cond {A = Reading (Cell × Mode)} (is_above last c) (then_read (field (mode rest)) (λ m end. Ok ((c, m), end))) (Err (stops.Left (length bytes)))) ≡ Err (stops.NotYet left) → KindStands bytes left
-touch_by last bytes left (Ok x) is e = absurd (above_later (is_above last x.0) x.0 x.1 bytes left e)
-touch_by last bytes left (Err s) is e = let same : s ≡ stops.NotYet left = cc in cell_later bytes left (is ∙ ap (λ (s : FormatStop). Err s) same)
+-- the other way round
+kind_at : (k : ℕ) (behind : List ℕ) → to_be_bytes w8 k ≡ k ∷ [] → k < 2 ^ 8 → IsTrue (nat_le k 2) → eqb k 0 ≡ false → kind (k ∷ behind) ≡ later (suc (length behind))
+kind_at k behind spelt small known_one other =
+    let was : known (k ∷ behind) ≡ Ok (k, behind) = ap (λ (l : List ℕ). known (l ++ behind)) (sym spelt) ∙ known_reads.again k behind (small, known_one) in
+    ap (λ (y : Read ℕ). after y (λ a rest. cond {A = Read ℕ} (eqb a 0) (Ok (a, rest)) (later (suc (length behind))))) was
+    ∙ ap (λ (b : Bool). cond {A = Read ℕ} b (Ok (k, behind)) (later (suc (length behind)))) other
 
-touch_later : (last : Option Cell) (bytes : List ℕ) (left : ℕ) → touch_or_later last bytes ≡ Err (stops.NotYet left) → KindStands bytes left
-touch_later last bytes left e = touch_by last bytes left (cell_or_later bytes) refl e
+pub cell_at : (k : ℕ) (behind : List ℕ) → IsLaterKind k → cell (k ∷ behind) ≡ later (suc (length behind))
+cell_at k behind (inl is) =
+    subst (λ (k : ℕ). cell (k ∷ behind) ≡ later (suc (length behind))) (sym is)
+    (ap (λ (y : Read ℕ). after (after y (λ a rest. after (address rest) (λ b end. Ok ((a, b), end)))) (λ (p : ℕ × List ℕ) rest. Ok (Balance p.1, rest))) (kind_at 1 behind refl (omega arith) refl refl))
+cell_at k behind (inr is) =
+    subst (λ (k : ℕ). cell (k ∷ behind) ≡ later (suc (length behind))) (sym is)
+    (ap (λ (y : Read ℕ). after (after y (λ a rest. after (address rest) (λ b end. Ok ((a, b), end)))) (λ (p : ℕ × List ℕ) rest. Ok (Balance p.1, rest))) (kind_at 2 behind refl (omega arith) refl refl))
 
-rest_by : (t : Cell × Mode) (left : ℕ) (r : Reading (List (Cell × Mode))) → then_read r (λ ts end. Ok (t ∷ ts, end)) ≡ Err (stops.NotYet left) → r ≡ Err (stops.NotYet left)
-rest_by t left (Ok x) e = absurd cc
-rest_by t left (Err s) e = let same : s ≡ stops.NotYet left = cc in ap (λ (s : FormatStop). Err s) same
+-- ---- touches
 
-touches_by : (last : Option Cell) (n : ℕ) (bytes : List ℕ) (left : ℕ) (r : Reading (Cell × Mode)) → IsBytes bytes → touch_or_later last bytes ≡ r →
-    then_read r (λ t rest. then_read (touches_or_later (Some t.0) n rest) (λ ts end. Ok (t ∷ ts, end))) ≡ Err (stops.NotYet left) →
-    ((t : Cell × Mode) (rest : List ℕ) → IsBytes rest → touches_or_later (Some t.0) n rest ≡ Err (stops.NotYet left) → Later (Some t.0) n rest left) → Later last (suc n) bytes left
-touches_by last n bytes left (Err s) fits is e ih =
-    let same : s ≡ stops.NotYet left = cc in
-    let k = touch_later last bytes left (is ∙ ap (λ (s : FormatStop). Err s) same) in
-    record { before = []; kind = k.kind; behind = k.behind; more = omega arith; along = tt; later = k.later; parts = k.parts; left_is = k.left_is }
-touches_by last n bytes left (Ok (t, rest)) fits is e ih =
-    let plain : touch last bytes ≡ Ok (t, rest) = sym (forget-touch last bytes) ∙ ap forget is in
-    let taken = (touch_reads last).takes bytes t rest fits plain in
-    let l = ih t rest taken.0.rest_fits (rest_by t left (touches_or_later (Some t.0) n rest) e) in
-    record {
-      before = t ∷ l.before;
-      kind = l.kind;
-      behind = l.behind;
-      more = let lt : length l.before < n = l.more in omega arith;
-      along = (taken.1, l.along);
-      later = l.later;
-      parts = taken.0.parts ∙ ap (λ (r : List ℕ). spell_touch t ++ r) l.parts ∙ sym (append_assoc (spell_touch t) (flat_map spell_touch l.before) (l.kind ∷ l.behind)) ∙ ap (λ (r : List ℕ). r ++ l.kind ∷ l.behind) (sym (flat_map-cons spell_touch t l.before));
-      left_is = l.left_is;
-    }
+touch_stops : (last : Option Cell) (bytes : List ℕ) (left : ℕ) → IsBytes bytes → touch last bytes ≡ later left → KindStands bytes left
+touch_stops last bytes left fits e = elim (after_stop (checked (is_above last) cell bytes) _ (Stopped NotYet left) e) [
+  | inl first ↦ elim (after_stop (cell bytes) _ (Stopped NotYet left) first) [
+    | inl at ↦ cell_stops bytes left fits at
+    | inr s ↦ absurd (test_built (is_above last s.value) (length bytes) left (s.value, s.rest) s.then_is)
+  ]
+  | inr s ↦ elim (after_stop (mode s.rest) _ (Stopped NotYet left) s.then_is) [
+    | inl at ↦ absurd (mode_built s.rest left at)
+    | inr u ↦ absurd (ok_is_no_stop u.then_is)
+  ]
+]
 
-touches_later : (last : Option Cell) (n : ℕ) (bytes : List ℕ) (left : ℕ) → IsBytes bytes → touches_or_later last n bytes ≡ Err (stops.NotYet left) → Later last n bytes left
-touches_later last zero bytes left fits e = absurd cc
-touches_later last (suc n) bytes left fits e = touches_by last n bytes left (touch_or_later last bytes) fits refl e (λ t rest fits' is. touches_later (Some t.0) n rest left fits' is)
+-- touches that ascend, fewer than n, and then such a kind
+record TouchesStand (last : Option Cell) (n : ℕ) (bytes : List ℕ) (left : ℕ) : Type 0 where
+  before : List (Cell × Mode)
+  kind_of : ℕ
+  behind : List ℕ
+  more : length before < n
+  along : AllAlong IsNext next_last last before
+  is_later : IsLaterKind kind_of
+  parts : bytes ≡ flat_map spell_touch before ++ kind_of ∷ behind
+  left_is : left ≡ suc (length behind)
 
--- ---- the converse
+one_before : (last : Option Cell) (n : ℕ) (bytes : List ℕ) (left : ℕ) (t : Cell × Mode) (rest : List ℕ) → bytes ≡ spell_touch t ++ rest → IsNext last t → TouchesStand (Some t.0) n rest left → TouchesStand last (suc n) bytes left
+one_before last n bytes left t rest first next s = record {
+  before = t ∷ s.before;
+  kind_of = s.kind_of;
+  behind = s.behind;
+  more = let lt : length s.before < n = s.more in omega arith;
+  along = (next, s.along);
+  is_later = s.is_later;
+  parts = first ∙ ap (λ (r : List ℕ). spell_touch t ++ r) s.parts ∙ sym (append_assoc (spell_touch t) (flat_map spell_touch s.before) (s.kind_of ∷ s.behind))
+      ∙ ap (λ (r : List ℕ). r ++ s.kind_of ∷ s.behind) (sym (flat_map-cons spell_touch t s.before));
+  left_is = s.left_is;
+}
 
-kind_read : (kind : ℕ) (behind : List ℕ) → (kind ≡ 1) ⊎ (kind ≡ 2) → cell_or_later (kind ∷ behind) ≡ Err (stops.NotYet (suc (length behind)))
-kind_read kind behind (inl is) = subst (λ (k : ℕ). cell_or_later (k ∷ behind) ≡ Err (stops.NotYet (suc (length behind)))) (sym is) refl
-kind_read kind behind (inr is) = subst (λ (k : ℕ). cell_or_later (k ∷ behind) ≡ Err (stops.NotYet (suc (length behind)))) (sym is) refl
+touches_stop : (last : Option Cell) (n : ℕ) (bytes : List ℕ) (left : ℕ) → IsBytes bytes → chained touch next_last last n bytes ≡ later left → TouchesStand last n bytes left
+touches_stop last zero bytes left fits e = absurd cc
+touches_stop last (suc n) bytes left fits e = elim (after_stop (touch last bytes) _ (Stopped NotYet left) e) [
+  | inl at ↦
+      let k = touch_stops last bytes left fits at in
+      record { before = []; kind_of = k.kind_of; behind = k.behind; more = omega arith; along = tt; is_later = k.is_later; parts = k.parts; left_is = k.left_is }
+  | inr s ↦
+      let t = (touch_reads last).takes bytes s.value s.rest fits s.was in
+      elim (after_stop (chained touch next_last (Some s.value.0) n s.rest) _ (Stopped NotYet left) s.then_is) [
+        | inl at ↦ one_before last n bytes left s.value s.rest t.0.parts t.1 (touches_stop (Some s.value.0) n s.rest left t.0.rest_fits at)
+        | inr u ↦ absurd (ok_is_no_stop u.then_is)
+      ]
+]
 
-touch_stop : (last : Option Cell) (kind : ℕ) (behind : List ℕ) → (kind ≡ 1) ⊎ (kind ≡ 2) → touch_or_later last (kind ∷ behind) ≡ Err (stops.NotYet (suc (length behind)))
-touch_stop last kind behind later =
-    ap (λ (r : Reading Cell). then_read r (λ c rest. cond {A = Reading (Cell × Mode)} (is_above last c) (then_read (field (mode rest)) (λ m end. Ok ((c, m), end))) (Err (stops.Left (length (kind ∷ behind)))))) (kind_read kind behind later)
-
-touch_again : (last : Option Cell) (t : Cell × Mode) (rest : List ℕ) → IsNext last t → touch_or_later last (spell_touch t ++ rest) ≡ Ok (t, rest)
-touch_again last t rest good = forget_ok (touch_or_later last (spell_touch t ++ rest)) (t, rest) (forget-touch last (spell_touch t ++ rest) ∙ (touch_reads last).again t rest good)
-
-touches_stop : (last : Option Cell) (before : List (Cell × Mode)) (n kind : ℕ) (behind : List ℕ) → AllAlong IsNext next_last last before → length before < n → (kind ≡ 1) ⊎ (kind ≡ 2) →
-    touches_or_later last n (flat_map spell_touch before ++ kind ∷ behind) ≡ Err (stops.NotYet (suc (length behind)))
-touches_stop last [] zero kind behind along lt later = absurd (omega arith)
-touches_stop last [] (suc n) kind behind along lt later =
-    ap (λ (r : Reading (Cell × Mode)). then_read r (λ t rest. then_read (touches_or_later (Some t.0) n rest) (λ ts end. Ok (t ∷ ts, end)))) (touch_stop last kind behind later)
-touches_stop last (t ∷ before) zero kind behind along lt later = absurd (omega arith)
-touches_stop last (t ∷ before) (suc n) kind behind along lt later =
-    let regrouped : flat_map spell_touch (t ∷ before) ++ kind ∷ behind ≡ spell_touch t ++ (flat_map spell_touch before ++ kind ∷ behind) =
-    ap (λ (l : List ℕ). l ++ kind ∷ behind) (flat_map-cons spell_touch t before) ∙ append_assoc (spell_touch t) (flat_map spell_touch before) (kind ∷ behind) in
-    ap (touches_or_later last (suc n)) regrouped
-    ∙ ap (λ (r : Reading (Cell × Mode)). then_read r (λ t rest. then_read (touches_or_later (Some t.0) n rest) (λ ts end. Ok (t ∷ ts, end)))) (touch_again last t (flat_map spell_touch before ++ kind ∷ behind) along.0)
-    ∙ ap (λ (r : Reading (List (Cell × Mode))). then_read r (λ ts end. Ok (t ∷ ts, end))) (touches_stop (Some t.0) before n kind behind along.1 (omega arith) later)
+-- the other way round
+touches_at : (last : Option Cell) (before : List (Cell × Mode)) (n k : ℕ) (behind : List ℕ) → AllAlong IsNext next_last last before → length before < n → IsLaterKind k →
+    chained touch next_last last n (flat_map spell_touch before ++ k ∷ behind) ≡ later (suc (length behind))
+touches_at last [] zero k behind along lt is = absurd (omega arith)
+touches_at last [] (suc n) k behind along lt is =
+    ap (λ (y : Read Cell). after (after (after y (λ c rest. cond {A = Read Cell} (is_above last c) (Ok (c, rest)) (Err (Stopped Faulty (suc (length behind)))))) (λ c rest. after (mode rest) (λ m end. Ok ((c, m), end))))
+    (λ t rest. after (chained touch next_last (Some t.0) n rest) (λ all end. Ok (t ∷ all, end)))) (cell_at k behind is)
+touches_at last (t ∷ before) zero k behind along lt is = absurd (omega arith)
+touches_at last (t ∷ before) (suc n) k behind along lt is =
+    let regrouped : flat_map spell_touch (t ∷ before) ++ k ∷ behind ≡ spell_touch t ++ (flat_map spell_touch before ++ k ∷ behind) =
+    ap (λ (l : List ℕ). l ++ k ∷ behind) (flat_map-cons spell_touch t before) ∙ append_assoc (spell_touch t) (flat_map spell_touch before) (k ∷ behind) in
+    ap (chained touch next_last last (suc n)) regrouped
+    ∙ ap (λ (y : Read (Cell × Mode)). after y (λ t rest. after (chained touch next_last (Some t.0) n rest) (λ all end. Ok (t ∷ all, end)))) ((touch_reads last).again t (flat_map spell_touch before ++ k ∷ behind) along.0)
+    ∙ ap (λ (y : Read (List (Cell × Mode))). after y (λ all end. Ok (t ∷ all, end))) (touches_at (Some t.0) before n k behind along.1 (omega arith) is)
 
 -- ---- footprints
 
@@ -192,78 +203,40 @@ count = checked (λ n. nat_le n 256) (number w32)
 counts : Reads count (to_be_bytes w32) (λ n. (n < 2 ^ 32) × IsTrue (nat_le n 256))
 counts = checked_reads (λ n. nat_le n 256) (number_reads w32 (2 ^ 32) wide32)
 
-record Stopped (bytes : List ℕ) (left : ℕ) : Type 0 where
-  number_of : ℕ
-  rest : List ℕ
-  few : number_of ≤ 256
-  later : Later None number_of rest left
-  parts : bytes ≡ to_be_bytes w32 number_of ++ rest
+pub stops_at : (bytes : List ℕ) (at left : ℕ) → IsBytes bytes → at ≤ length bytes → footprint (drop at bytes) ≡ Err (Stopped NotYet left) → StopsAt bytes at (length bytes - left)
+stops_at bytes at left fits le e = elim (after_stop (count (drop at bytes)) _ (Stopped NotYet left) e) [
+  | inl stopped ↦ absurd (checked_built (λ n. nat_le n 256) (number w32) (number_built w32) (drop at bytes) left stopped)
+  | inr s ↦
+      let t = counts.takes (drop at bytes) s.value s.rest (IsBytes-drop at bytes fits) s.was in
+      let l = touches_stop None s.value s.rest left t.0.rest_fits s.then_is in
+      let front : List ℕ = to_be_bytes w32 s.value ++ flat_map spell_touch l.before in
+      let parts : drop at bytes ≡ front ++ l.kind_of ∷ l.behind =
+      t.0.parts ∙ ap (λ (r : List ℕ). to_be_bytes w32 s.value ++ r) l.parts ∙ sym (append_assoc (to_be_bytes w32 s.value) (flat_map spell_touch l.before) (l.kind_of ∷ l.behind)) in
+      let left_is : left ≡ suc (length l.behind) = l.left_is in
+      let place : length bytes - left ≡ at + length front = omega (arith, length-drop at bytes, ap length parts, length-append front (l.kind_of ∷ l.behind)) in
+      record { count = s.value; before = l.before; kind = l.kind_of; behind = l.behind; few = leb-true s.value 256 t.1.1; more = l.more; touches = touches_from_next l.before l.along; later = l.is_later; place = place; parts = parts }
+]
 
-stopped_by : (bytes : List ℕ) (left : ℕ) (r : Read ℕ) → IsBytes bytes → count bytes ≡ r → then_read (field r) (λ n rest. touches_or_later None n rest) ≡ Err (stops.NotYet left) → Stopped bytes left
-stopped_by bytes left (Err n) fits is e = absurd cc
-stopped_by bytes left (Ok (n, rest)) fits is e =
-    let taken = counts.takes bytes n rest fits is in
-    record { number_of = n; rest = rest; few = leb-true n 256 taken.1.1; later = touches_later None n rest left taken.0.rest_fits e; parts = taken.0.parts }
-
-stops_at : (bytes : List ℕ) (at left : ℕ) → IsBytes bytes → at ≤ length bytes → footprint_or_later (drop at bytes) ≡ Err (stops.NotYet left) → StopsAt bytes at (length bytes - left)
-stops_at bytes at left fits le e =
-    let s = stopped_by (drop at bytes) left (count (drop at bytes)) (IsBytes-drop at bytes fits) refl e in
-    let l = s.later in
-    let front : List ℕ = to_be_bytes w32 s.number_of ++ flat_map spell_touch l.before in
-    let parts : drop at bytes ≡ front ++ l.kind ∷ l.behind =
-    s.parts ∙ ap (λ (r : List ℕ). to_be_bytes w32 s.number_of ++ r) l.parts ∙ sym (append_assoc (to_be_bytes w32 s.number_of) (flat_map spell_touch l.before) (l.kind ∷ l.behind)) in
-    let left_is : left ≡ suc (length l.behind) = l.left_is in
-    let place : length bytes - left ≡ at + length front = omega (arith, length-drop at bytes, ap length parts, length-append front (l.kind ∷ l.behind)) in
-    record { count = s.number_of; before = l.before; kind = l.kind; behind = l.behind; few = s.few; more = l.more; touches = touches_from_next l.before l.along; later = l.later; place = place; parts = parts }
-
-stop_read : (bytes : List ℕ) (at p : ℕ) → at ≤ length bytes → (s : StopsAt bytes at p) → footprint_or_later (drop at bytes) ≡ Err (stops.NotYet (suc (length s.behind)))
+pub stop_read : (bytes : List ℕ) (at p : ℕ) → at ≤ length bytes → (s : StopsAt bytes at p) → footprint (drop at bytes) ≡ Err (Stopped NotYet (suc (length s.behind)))
 stop_read bytes at p le s =
     let text : List ℕ = flat_map spell_touch s.before ++ s.kind ∷ s.behind in
     let few : s.count ≤ 256 = s.few in
     let parts : drop at bytes ≡ to_be_bytes w32 s.count ++ text = s.parts ∙ append_assoc (to_be_bytes w32 s.count) (flat_map spell_touch s.before) (s.kind ∷ s.behind) in
-    ap footprint_or_later parts
-    ∙ ap (λ (r : Read ℕ). then_read (field r) (λ n rest. touches_or_later None n rest)) (counts.again s.count text (omega arith, le-leb s.count 256 few))
-    ∙ touches_stop None s.before s.count s.kind s.behind (next_from_touches s.before s.touches) s.more s.later
+    ap footprint parts
+    ∙ ap (λ (r : Read ℕ). after r (λ n rest. chained touch next_last None n rest)) (counts.again s.count text (omega arith, le-leb s.count 256 few))
+    ∙ touches_at None s.before s.count s.kind s.behind (next_from_touches s.before s.touches) s.more s.later
 
-stop_place : (bytes : List ℕ) (at p : ℕ) → at ≤ length bytes → (s : StopsAt bytes at p) → length bytes - suc (length s.behind) ≡ p
+pub stop_place : (bytes : List ℕ) (at p : ℕ) → at ≤ length bytes → (s : StopsAt bytes at p) → length bytes - suc (length s.behind) ≡ p
 stop_place bytes at p le s =
     let front : List ℕ = to_be_bytes w32 s.count ++ flat_map spell_touch s.before in
     let place : p ≡ at + length front = s.place in
     omega (arith, length-drop at bytes, ap length s.parts, length-append front (s.kind ∷ s.behind))
 
--- ---- the public clauses
+-- ---- cells
 
-found_by : {A : Type 0} {read : Reader A} {spell : A → List ℕ} {Good : A → Type 0} → Reads read spell Good → (bytes : List ℕ) (at : ℕ) → at ≤ length bytes → IsBytes bytes → (r : Result (A × ℕ) FormatFault) →
-    Places r (placed (length bytes) (read (drop at bytes))) → IfOk r (Spelt spell Good bytes at)
-found_by reads bytes at le fits (Ok y) e = is_found reads bytes at le (Ok y) fits e
-found_by reads bytes at le fits (Err x) e = tt
-
-read_by : {A : Type 0} {read : Reader A} {spell : A → List ℕ} {Good : A → Type 0} → Reads read spell Good → (bytes : List ℕ) (at : ℕ) (a : A) (rest : List ℕ) → Good a → drop at bytes ≡ spell a ++ rest →
-    placed (length bytes) (read (drop at bytes)) ≡ Ok (a, length bytes - length rest)
-read_by {read = read} reads bytes at a rest good e = ap (placed (length bytes)) (ap read e ∙ reads.again a rest good)
-
-module _ (bytes : List ℕ) (at : ℕ) (le : at ≤ length bytes) (fits : IsBytes bytes) (r : Result (List (Cell × Mode) × ℕ) FormatFault) (told : IsTold r (told_in (length bytes) (footprint_or_later (drop at bytes)))) where
-  pub footprint_place : Places r (placed (length bytes) (footprint (drop at bytes)))
-  footprint_place = subst (λ (read : Read (List (Cell × Mode))). Places r (placed (length bytes) read)) (forget-footprint (drop at bytes)) (places (length bytes) r (footprint_or_later (drop at bytes)) told)
-
-  pub footprint_found : IfOk r (Spelt spell_footprint IsFootprint bytes at)
-  footprint_found = found_by footprint_reads bytes at le fits r footprint_place
-
-  pub footprint_only : (f : List (Cell × Mode)) (rest : List ℕ) → IsFootprint f → drop at bytes ≡ spell_footprint f ++ rest → Places r (Ok (f, length bytes - length rest))
-  footprint_only f rest good e = subst (Places r) (read_by footprint_reads bytes at f rest good e) footprint_place
-
-  pub footprint_stops : IfNotYet r (StopsAt bytes at)
-  footprint_stops = if_not_yet (length bytes) r (footprint_or_later (drop at bytes)) (StopsAt bytes at) told (λ n e. stops_at bytes at n fits le e)
-
-  pub footprint_stops_only : (p : ℕ) → StopsAt bytes at p → IsNotYet r p
-  footprint_stops_only p s = is_not_yet (length bytes) (suc (length s.behind)) p r (footprint_or_later (drop at bytes)) told (stop_read bytes at p le s) (stop_place bytes at p le s)
-
-module _ (bytes : List ℕ) (at : ℕ) (le : at ≤ length bytes) (fits : IsBytes bytes) (r : Result (Cell × ℕ) FormatFault) (told : IsTold r (told_in (length bytes) (cell_or_later (drop at bytes)))) where
-  pub cell_place : Places r (placed (length bytes) (cell (drop at bytes)))
-  cell_place = subst (λ (read : Read Cell). Places r (placed (length bytes) read)) (forget-cell (drop at bytes)) (places (length bytes) r (cell_or_later (drop at bytes)) told)
-
-  pub cell_found : IfOk r (Spelt spell_cell IsCell bytes at)
-  cell_found = found_by cell_reads bytes at le fits r cell_place
-
-  pub cell_only : (c : Cell) (rest : List ℕ) → IsCell c → drop at bytes ≡ spell_cell c ++ rest → Places r (Ok (c, length bytes - length rest))
-  cell_only c rest good e = subst (Places r) (read_by cell_reads bytes at c rest good e) cell_place
+pub cell_stops_at : (bytes : List ℕ) (at left : ℕ) → IsBytes bytes → at ≤ length bytes → cell (drop at bytes) ≡ Err (Stopped NotYet left) → (length bytes - left ≡ at) × IsLaterKind (slice_index bytes at)
+cell_stops_at bytes at left fits le e =
+    let k = cell_stops (drop at bytes) left (IsBytes-drop at bytes fits) e in
+    let left_is : left ≡ suc (length k.behind) = k.left_is in
+    let here : slice_index bytes at ≡ k.kind_of = ap (slice_index bytes) (omega arith) ∙ sym (get_or-drop at bytes 0 0) ∙ ap (λ (l : List ℕ). slice_index l 0) k.parts in
+    (omega (arith, length-drop at bytes, ap length k.parts), subst IsLaterKind (sym here) k.is_later)

@@ -5,8 +5,6 @@ pub mod Accounts
 pub mod Footprints
 pub mod Spelling
 pub mod Stops
-pub mod Partial
-pub mod Answers
 pub mod Reading
 -- what functions inside promise each other
 pub mod CellOrder

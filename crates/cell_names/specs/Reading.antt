@@ -1,36 +1,31 @@
--- Reading cells and footprints, and where it stops.
-use Rattle.std.specs.Prelude.{◌≡◌, ℕ, zero, suc, ◌-◌, List, [], ◌∷◌, length, Bool, true, Option, Some, None, Result, Ok, Err, nat_le, ◌==◌, if◌then◌else◌, slice_get}
-use Rattle.std.specs.Int.{w32}
+-- Reading cells and footprints: where the first fault is, and where a kind of cell stands that isn't built.
+use Rattle.std.specs.Prelude.{ℕ, ◌-◌, List, length, Bool, true, Option, Some, None, nat_le, ◌==◌, if◌then◌else◌, slice_get}
+use Rattle.std.specs.Int.{w8, w32}
 use Rattle.std.specs.Option.{option_map}
 use Rattle.std.specs.Ordering.{is_lt}
-use Rattle.byte_fields.specs.Readers.{Read, Reader, made, both, with, checked, chained, number, run}
+use Rattle.byte_fields.specs.Readers.{Reader, made, both, with, checked, built, chained, number}
 use Rattle.value_codec.specs.Reading.{address}
 use Rattle.cell_names.specs.declared.cell.Cell.{Cell}
 use Rattle.cell_names.specs.declared.cell.Cell.TheVariants.{Balance}
 use Rattle.cell_names.specs.declared.mode.Mode.{Mode}
 use Rattle.cell_names.specs.declared.mode.Mode.TheVariants as modes
-use Rattle.cell_names.specs.declared.fault.FormatStop.TheVariants as stops
 use Rattle.cell_names.specs.Cells.{cell_cmp}
-use Rattle.cell_names.specs.Partial.{Reading, field, then_read}
 
--- ---- as the bytes have it, where a kind that isn't built is a fault
+-- the three kinds of cells, of which balances are built
+abbrev pub kind : Reader ℕ
+kind = built (λ k. k == 0) (checked (λ k. nat_le k 2) (number w8))
 
--- what stands behind a kind
-abbrev pub behind_kind : ℕ → Reader Cell
-behind_kind kind bytes = if kind == 0 then made Balance address bytes else Err (suc (length bytes))
-
+-- the kind, then the address
 abbrev pub cell : Reader Cell
-cell [] = Err 0
-cell (kind ∷ bytes) = behind_kind kind bytes
+cell = made (λ p. Balance p.1) (both kind address)
 
--- what a byte means as a mode
-abbrev pub mode_of_byte : ℕ → List ℕ → Read Mode
-mode_of_byte b bytes =
-    if b == 0 then Ok (modes.Read, bytes) else if b == 1 then Ok (modes.Credit, bytes) else if b == 2 then Ok (modes.Own, bytes) else Err (suc (length bytes))
+-- what a byte up to 2 means as a mode
+abbrev pub mode_of_byte : ℕ → Mode
+mode_of_byte b = if b == 0 then modes.Read else if b == 1 then modes.Credit else modes.Own
 
+-- the byte of a mode
 abbrev pub mode : Reader Mode
-mode [] = Err 0
-mode (b ∷ bytes) = mode_of_byte b bytes
+mode = made mode_of_byte (checked (λ b. nat_le b 2) (number w8))
 
 -- the cell is above the last one, if there is one
 abbrev pub is_above : Option Cell → Cell → Bool
@@ -48,28 +43,6 @@ next_last last t = Some t.0
 -- at most 256 touches, counted before
 abbrev pub footprint : Reader (List (Cell × Mode))
 footprint = with (checked (λ n. nat_le n 256) (number w32)) (chained touch next_last None)
-
--- ---- the same, where a kind that isn't built is told apart
-
--- kinds 1 and 2 are lawful, and not built
-abbrev pub cell_behind : ℕ → List ℕ → Reading Cell
-cell_behind kind bytes = if kind == 1 then Err (stops.NotYet (suc (length bytes))) else if kind == 2 then Err (stops.NotYet (suc (length bytes))) else field (behind_kind kind bytes)
-
-abbrev pub cell_or_later : List ℕ → Reading Cell
-cell_or_later [] = Err (stops.Left 0)
-cell_or_later (kind ∷ bytes) = cell_behind kind bytes
-
-abbrev pub touch_or_later : Option Cell → List ℕ → Reading (Cell × Mode)
-touch_or_later last bytes =
-    then_read (cell_or_later bytes) (λ c rest. if is_above last c then then_read (field (mode rest)) (λ m end. Ok ((c, m), end)) else Err (stops.Left (length bytes)))
-
-abbrev pub touches_or_later : Option Cell → ℕ → List ℕ → Reading (List (Cell × Mode))
-touches_or_later last zero bytes = Ok ([], bytes)
-touches_or_later last (suc n) bytes =
-    then_read (touch_or_later last bytes) (λ t rest. then_read (touches_or_later (Some t.0) n rest) (λ ts end. Ok (t ∷ ts, end)))
-
-abbrev pub footprint_or_later : List ℕ → Reading (List (Cell × Mode))
-footprint_or_later bytes = then_read (field (checked (λ n. nat_le n 256) (number w32) bytes)) (λ n rest. touches_or_later None n rest)
 
 -- the last cell of those that were read
 abbrev pub last_cell : List (Cell × Mode) → Option Cell

@@ -1,14 +1,23 @@
 //! Why bytes are no cell or footprint.
 
 ghost use Rattle.std.specs.Prelude.{◌≡◌};
-ghost use Rattle.byte_fields.specs.declared.fault.ReadStop.{ReadStop};
-ghost use Rattle.cell_names.specs.declared.fault.FormatStop.TheVariants.{NoMemory};
-ghost use Rattle.cell_names.specs.Stops.{stop_of, fault_of};
+ghost use Rattle.cell_names.specs.declared.fault.FieldStop.TheVariants as fields;
+ghost use Rattle.cell_names.specs.declared.fault.FormatStop.TheVariants as stops;
+ghost use Rattle.cell_names.specs.Stops.{of_field, of_read, fault_of};
 
-use byte_fields::{At, ReadStop};
+use byte_fields::{At, Left, ReadStop};
 use std::alloc::{AllocError, AllocFailed};
 
-/// Why reading stopped, inside a format.
+/// Where reading stopped, inside a format, of what takes no memory.
+#[derive(Clone, Copy, Debug, PartialEq, Eq)]
+pub enum FieldStop {
+    /// A field misses bytes or breaks its rule: so many bytes are left at its first byte.
+    Left(usize),
+    /// A field is lawful and isn't built yet: so many bytes are left at its first byte.
+    NotYet(usize),
+}
+
+/// Why reading stopped, inside a format, of what takes memory.
 #[derive(Clone, Copy, Debug, PartialEq, Eq)]
 pub enum FormatStop {
     /// Memory ran out.
@@ -19,8 +28,35 @@ pub enum FormatStop {
     NotYet(usize),
 }
 
+impl From<Left> for FieldStop {
+    ghost from_gives = { λ left e. e ≡ fields.Left left.0 };
+
+    fn from(left: Left) -> FieldStop {
+        FieldStop::Left(left.0)
+    }
+}
+
+impl From<Left> for FormatStop {
+    ghost from_gives = { λ left e. e ≡ stops.Left left.0 };
+
+    fn from(left: Left) -> FormatStop {
+        FormatStop::Left(left.0)
+    }
+}
+
+impl From<FieldStop> for FormatStop {
+    ghost from_gives = { λ stop e. e ≡ of_field stop };
+
+    fn from(stop: FieldStop) -> FormatStop {
+        match stop {
+            FieldStop::Left(left) => FormatStop::Left(left),
+            FieldStop::NotYet(left) => FormatStop::NotYet(left),
+        }
+    }
+}
+
 impl From<ReadStop> for FormatStop {
-    ghost from_gives = { λ stop e. e ≡ stop_of stop };
+    ghost from_gives = { λ stop e. e ≡ of_read stop };
 
     fn from(stop: ReadStop) -> FormatStop {
         match stop {
@@ -31,7 +67,7 @@ impl From<ReadStop> for FormatStop {
 }
 
 impl From<AllocError> for FormatStop {
-    ghost from_gives = { λ _ e. e ≡ NoMemory };
+    ghost from_gives = { λ _ e. e ≡ stops.NoMemory };
 
     fn from(_e: AllocError) -> FormatStop {
         FormatStop::NoMemory
@@ -39,7 +75,7 @@ impl From<AllocError> for FormatStop {
 }
 
 impl<T: Drop> From<AllocFailed<T>> for FormatStop {
-    ghost from_gives = { λ _ e. e ≡ NoMemory };
+    ghost from_gives = { λ _ e. e ≡ stops.NoMemory };
 
     fn from(_e: AllocFailed<T>) -> FormatStop {
         FormatStop::NoMemory

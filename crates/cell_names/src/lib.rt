@@ -4,6 +4,7 @@
 //! balance, and an owner shares nothing. What an operation touched is its footprint: the cells in
 //! their order, each with the join of the modes in which it was touched.
 //!
+//! - `laws`: bytes against cells and footprints, one to one.
 //! - `mode`: the modes, `conflict` and `join`. Begin here.
 //! - `cell`: what can be touched, and the order of cells.
 //! - `footprint`: a map from cells to modes, in the order of cells.
@@ -22,14 +23,16 @@ mod cell;
 mod fault;
 mod footprint;
 mod head;
+mod laws;
 mod mode;
 mod reader;
 mod writer;
 
 pub use cell::{Cell, NoMemory, order, order_is_total};
-pub use fault::{FormatFault, FormatStop, fault_at};
+pub use fault::{FieldStop, FormatFault, FormatStop, fault_at};
 pub use footprint::Footprint;
 pub use head::Head;
+pub use laws::{cells_have_one_spelling, footprints_have_one_spelling};
 pub use mode::{Mode, conflict, join};
 pub use reader::{cell_at, footprint_at, read_cell, read_footprint};
 pub use writer::{write_cell, write_footprint};

@@ -81,6 +81,22 @@ fn a_footprint_is_written_and_read(rt: HostRuntime) -> Result<(), Fail> {
 }
 
 #[test]
+fn a_footprint_of_256_cells_is_written_and_read(rt: HostRuntime) -> Result<(), Fail> {
+    let mut made = Footprint::new(rt.alloc());
+    for last in 0..=255u8 {
+        made.touch(rt.alloc(), &account(last)?, Mode::Own)?;
+    }
+    assert_eq!(rt; made.len(), 256);
+    let mut out = Vec::new(rt.alloc());
+    write_footprint(rt.alloc(), &made, &mut out)?;
+    assert_eq!(rt; out.len(), 6148);
+    let (read, end) = read_footprint(rt.alloc(), &out, 0).ok().ok_or("refused")?;
+    assert!(rt; read.same(&made));
+    assert_eq!(rt; end, 6148);
+    Ok(())
+}
+
+#[test]
 fn each_fault_is_told_at_its_field(rt: HostRuntime) {
     // The byte that is changed, what it becomes, and the place that is told.
     let faults: [(usize, u8, usize); 6] = [

@@ -1,8 +1,8 @@
 //! Writing cells and footprints as bytes.
 
 ghost use Rattle.std.specs.Prelude.{◌≡◌, ◌++◌, ◌∷◌, [], ◌≤◌, length, OnOk, OnErr};
-ghost use Rattle.std.specs.List.{flat_map};
-ghost use Rattle.cell_names.specs.Spelling.{spell_cell, spell_touch, spell_mode, spell_footprint};
+ghost use Rattle.std.specs.List.{flat_map, AllByRecursion};
+ghost use Rattle.cell_names.specs.Spelling.{spell_cell, spell_touch, spell_mode, spell_footprint, IsCell, IsFootprint};
 
 use crate::cell::{Cell, NoMemory};
 use crate::footprint::Footprint;
@@ -13,6 +13,8 @@ use std::alloc::Global;
 /// Appends the one spelling of the cell.
 pub fn write_cell(alloc: Global, c: &Cell, out: &mut Vec<u8>) -> Result<(), NoMemory>
     ensures written { OnOk result (out.new.items ≡ out.old.items ++ spell_cell c.now) }
+    // So `read_cell` reads it again, whatever follows.
+    ensures spelt { OnOk result (IsCell c.now) }
     ensures unchanged { OnErr result (out.new.items ≡ out.old.items) }
 {
     let mut draft = Draft::on(alloc, out);
@@ -24,6 +26,8 @@ pub fn write_cell(alloc: Global, c: &Cell, out: &mut Vec<u8>) -> Result<(), NoMe
 pub fn write_footprint(alloc: Global, f: &Footprint, out: &mut Vec<u8>) -> Result<(), NoMemory>
     requires { length f.now ≤ 256 }
     ensures written { OnOk result (out.new.items ≡ out.old.items ++ spell_footprint f.now) }
+    // So `read_footprint` reads it again, whatever follows.
+    ensures spelt { OnOk result (IsFootprint f.now) }
     ensures unchanged { OnErr result (out.new.items ≡ out.old.items) }
 {
     let mut draft = Draft::on(alloc, out);
@@ -32,7 +36,9 @@ pub fn write_footprint(alloc: Global, f: &Footprint, out: &mut Vec<u8>) -> Resul
 }
 
 fn put_footprint(f: &Footprint, draft: &mut Draft) -> Result<(), NoMemory>
+    requires { length f.now ≤ 256 }
     ensures added { OnOk result (draft.new.added ≡ draft.old.added ++ spell_footprint f.now) }
+    ensures spelt { OnOk result (IsFootprint f.now) }
     ensures before { draft.new.before ≡ draft.old.before }
 {
     draft.put_count(f.len())?;
@@ -40,7 +46,9 @@ fn put_footprint(f: &Footprint, draft: &mut Draft) -> Result<(), NoMemory>
 }
 
 fn put_touches(touches: &[(Cell, Mode)], draft: &mut Draft) -> Result<(), NoMemory>
-    ensures added { OnOk result (draft.new.added ≡ draft.old.added ++ flat_map spell_touch touches.now) }
+    ensures added { OnOk result (draft.new.added
+        ≡ draft.old.added ++ flat_map spell_touch touches.now) }
+    ensures cells { OnOk result (AllByRecursion (λ t. IsCell t.0) touches.now) }
     ensures before { draft.new.before ≡ draft.old.before }
 {
     for touch in touches {
@@ -52,6 +60,7 @@ fn put_touches(touches: &[(Cell, Mode)], draft: &mut Draft) -> Result<(), NoMemo
 
 fn put_cell(c: &Cell, draft: &mut Draft) -> Result<(), NoMemory>
     ensures added { OnOk result (draft.new.added ≡ draft.old.added ++ spell_cell c.now) }
+    ensures spelt { OnOk result (IsCell c.now) }
     ensures before { draft.new.before ≡ draft.old.before }
 {
     match c {

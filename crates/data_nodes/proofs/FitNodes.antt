@@ -18,7 +18,7 @@ use Rattle.micheline_text.specs.declared.node.Body.TheVariants as variant
 use Rattle.micheline_text.specs.Kinds.{is_letter, is_word_byte}
 use Rattle.micheline_text.specs.Layout.{AllAre}
 use Rattle.micheline_text.specs.Printed.{Print}
-use Rattle.micheline_text.specs.Again.{IsName, IsFitLiteral, IsFitArgument, IsFitNode, IsInside, IsPrintable}
+use Rattle.micheline_text.specs.Fits.{IsName, IsFitLiteral, IsFitArgument, IsFitNode, IsInside, IsPrintable}
 use Rattle.micheline_text.proofs.PrintLemmas.{print_prim}
 use Rattle.data_nodes.specs.Printed.{is_printable, node_of, printed_level}
 use Rattle.data_nodes.specs.Held.{held_level, is_held, is_held_blob, is_held_number}

@@ -4,7 +4,9 @@ use Rattle.std.specs.Prelude.{IsTrue, IfOk}
 use Rattle.value_core.specs.declared.val.Val.{Val}
 use Rattle.value_core.specs.Depth.{depth_of}
 use Rattle.micheline_text.specs.declared.node.Node.{Node}
-use Rattle.micheline_text.specs.Again.{IsPrintable, IsTextOfOne, unplaced}
+use Rattle.micheline_text.specs.Again.{IsTextOfOne, brackets, is_well_named, unplaced}
+use Rattle.micheline_text.specs.Fits.{IsPrintable}
+use Rattle.micheline_text.proofs.FitDepths.{printable_is_named}
 use Rattle.data_nodes.specs.Printed.{IsReadAgain, is_printable, node_of}
 use Rattle.data_nodes.specs.Held.{is_held}
 use Rattle.data_nodes.proofs.DataLevels.{printable_is_data}
@@ -13,14 +15,15 @@ use Rattle.data_nodes.proofs.HeldAddresses.{held_addresses}
 use Rattle.data_nodes.proofs.WrittenNodes.{same_is_written}
 
 -- of a text of the node that is printed
-pub text_again : (text : List ℕ) (v : Val) (n : Node) → n ≡ node_of v → is_held v ≡ true → (IsPrintable n → IsTextOfOne text n) → is_printable v ≡ true → depth_of v ≤ 128 → IsReadAgain text v
+pub text_again : (text : List ℕ) (v : Val) (n : Node) → n ≡ node_of v → is_held v ≡ true → (IsTrue (is_well_named n) → brackets n ≤ 256 → IsTextOfOne text n) → is_printable v ≡ true → depth_of v ≤ 128 → IsReadAgain text v
 text_again text v n is held reads printable deep =
     let fit : IsPrintable n = subst IsPrintable (sym is) (printed_fits v printable held (omega (arith, deep))) in
-    let one = reads fit in
+    let named = printable_is_named n fit in
+    let one = reads named.0 named.1 in
     (one.0, one.1, λ t typed. (typed, same_is_written v one.0 printable (one.2 ∙ ap unplaced is), held_addresses v (printable_is_data v printable) held))
 
 -- the same of an answer with such a text, if it is one
 pub answer_again : {A E : Type 0} (items : A → List ℕ) (r : Result A E) (v : Val) (n : Node) → n ≡ node_of v → is_held v ≡ true →
-    IfOk r (λ a. IsPrintable n → IsTextOfOne (items a) n) → IfOk r (λ a. IsTrue (is_printable v) → depth_of v ≤ 128 → IsReadAgain (items a) v)
+    IfOk r (λ a. IsTrue (is_well_named n) → brackets n ≤ 256 → IsTextOfOne (items a) n) → IfOk r (λ a. IsTrue (is_printable v) → depth_of v ≤ 128 → IsReadAgain (items a) v)
 answer_again items (Ok a) v n is held reads = text_again (items a) v n is held reads
 answer_again items (Err e) v n is held reads = tt

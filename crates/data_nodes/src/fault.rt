@@ -22,14 +22,18 @@ pub enum DataKind {
 /// The leftmost fault of a node, and the offset at which it is told.
 #[derive(Clone, Copy, Debug, PartialEq, Eq)]
 pub struct DataFault {
+    /// The offset of the node that is at fault, in bytes of the text.
     pub at: usize,
+    /// What is wrong with it.
     pub kind: DataKind,
 }
 
 /// Why no value was read.
 #[derive(Debug, Drop)]
 pub enum DataRefusal {
+    /// The node is no data of the type.
     Fault(DataFault),
+    /// Memory ran out.
     NoMemory,
 }
 

@@ -15,8 +15,9 @@ use crate::fault::{DataRefusal, shape, too_large};
 use crate::items::{ascending, entries, items};
 use crate::literals::{bytes, number, string};
 use micheline_text::{Body, Node};
+use sqlite_items::Items;
 use std::alloc::Global;
-use value_core::{Ty, Val, left, pair, right, size, some};
+use value_core::{Ty, Val, left, right, size, some};
 
 /// The leaves that data may have.
 const LARGEST: u64 = 4096;
@@ -116,31 +117,45 @@ fn pair_of(alloc: Global, t: &Ty, at: usize, nodes: &[Node]) -> Result<Val, Data
 fn is_comb_of(nodes: &[Node], t: &Ty) -> bool
     ensures { result ≡ is_comb_of (map reader nodes.now) t.now }
 {
-    match nodes {
-        [] => false,
-        [_] => true,
-        [_, rest @ ..] => match t {
-            Ty::Pair(_, t) => is_comb_of(rest, t.get()),
-            _ => false,
-        },
+    let (mut left, mut behind) = (nodes, t);
+    loop {
+        match left {
+            [] => return false,
+            [_] => return true,
+            [_, rest @ ..] => match behind {
+                Ty::Pair(_, t) => {
+                    left = rest;
+                    behind = t.get();
+                }
+                _ => return false,
+            },
+        }
     }
 }
 
+/// The items of a comb in a loop, since a flat `Pair` may have millions.
 #[cycle(reading)]
 fn comb(alloc: Global, t: &Ty, at: usize, nodes: &[Node]) -> Result<Val, DataRefusal>
     ensures { Answers (λ v. v) (comb at (map reader nodes.now) t.now) result }
 {
-    match nodes {
-        [] => Err(shape(at)),
-        [last] => value(alloc, t, last),
-        [first, rest @ ..] => match t {
-            Ty::Pair(s, t) => {
-                let a = value(alloc, s.get(), first)?;
-                let b = comb(alloc, t.get(), at, rest)?;
-                Ok(pair(alloc, a, b)?)
+    let mut firsts = Items::new(alloc);
+    let (mut left, mut behind) = (nodes, t);
+    loop {
+        match left {
+            [] => return Err(shape(at)),
+            [last] => {
+                let last = value(alloc, behind, last)?;
+                return Ok(value_core::comb(alloc, firsts, last)?);
             }
-            _ => Err(shape(at)),
-        },
+            [first, rest @ ..] => match behind {
+                Ty::Pair(s, t) => {
+                    firsts.push(value(alloc, s.get(), first)?)?;
+                    left = rest;
+                    behind = t.get();
+                }
+                _ => return Err(shape(at)),
+            },
+        }
     }
 }
 

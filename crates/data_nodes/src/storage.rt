@@ -66,16 +66,16 @@ fn part(
     ensures { IfOk result (λ r. IsPart t.now v first entries.old.items r.0 entries.new.items r.1) }
 {
     match t {
-        Ty::Pair(s, u) => match v {
-            Val::Pair(a, b) => {
-                let (x, next) = part(alloc, s.get(), a.into_inner(), first, entries)?;
-                let (y, last) = part(alloc, u.get(), b.into_inner(), next, entries)?;
+        Ty::Pair(s, u) => match v.into_pair() {
+            Ok((a, b)) => {
+                let (x, next) = part(alloc, s.get(), a, first, entries)?;
+                let (y, last) = part(alloc, u.get(), b, next, entries)?;
                 Ok((pair(alloc, x, y)?, last))
             }
-            other => Ok((other, first)),
+            Err(other) => Ok((other, first)),
         },
-        Ty::BigMap(_, _) => match v {
-            Val::Map(pairs) => {
+        Ty::BigMap(_, _) => match v.into_entries() {
+            Ok(pairs) => {
                 take_out(alloc, first, pairs, entries)?;
                 let version = 0;
                 Ok((
@@ -86,7 +86,7 @@ fn part(
                     first + 1,
                 ))
             }
-            other => Ok((other, first)),
+            Err(other) => Ok((other, first)),
         },
         _ => Ok((v, first)),
     }

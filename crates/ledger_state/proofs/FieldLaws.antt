@@ -5,10 +5,12 @@ use Rattle.std.specs.List.{flat_map}
 use Rattle.std.specs.Cmp.{first_so}
 use Rattle.std.specs.Int.{w32, w64, to_be_bytes}
 use Rattle.std.proofs.lemmas.Bool.{eqb-true, eq-eqb, ltb-true, lt-ltb, le-leb}
-use Rattle.byte_fields.specs.Readers.{number}
+use Rattle.byte_fields.specs.Readers.{number, made, checked, with}
+use Rattle.byte_fields.specs.Laws.{Reads}
+use Rattle.byte_fields.proofs.Joined.{both_reads, built_reads, checked_reads, made_reads, reads_as, with_reads}
+use Rattle.byte_fields.proofs.Lists.{GoodItems, chained_reads}
 use Rattle.byte_fields.proofs.Digits.{wide32}
 use Rattle.byte_fields.proofs.Numbers.{number_reads}
-use Rattle.byte_fields.proofs.Lists.{GoodItems}
 use Rattle.value_core.specs.declared.val.Val.{Val}
 use Rattle.value_core.specs.declared.val.Val.TheVariants as variant
 use Rattle.value_core.specs.declared.val.Val.TheOpen as one
@@ -20,16 +22,14 @@ use Rattle.value_codec.specs.Reading.{value}
 use Rattle.value_codec.specs.Spelling.{spell}
 use Rattle.value_codec.proofs.Levels.{IsGood, good_at}
 use Rattle.value_codec.proofs.Spelt.{spell_mutez}
-use Rattle.value_codec.proofs.Laws.{value_reads}
+use Rattle.value_codec.proofs.ValueLaws.{value_reads}
 use Rattle.cell_names.specs.declared.cell.Cell.{Cell}
 use Rattle.cell_names.specs.declared.cell.Cell.TheVariants.{Balance}
 use Rattle.cell_names.specs.Accounts.{IsImplicit, is_implicit}
 use Rattle.cell_names.specs.Cells.{address_of}
-use Rattle.cell_names.specs.Partial.{made, checked, plain, with}
 use Rattle.cell_names.specs.Reading.{is_above}
 use Rattle.cell_names.specs.Spelling.{spell_cell, IsCell}
-use Rattle.cell_names.proofs.Forget.{ReadsPart, reads_plain, reads_same, reads_made, reads_both, reads_with, reads_checked, reads_built, reads_chained}
-use Rattle.cell_names.proofs.NotYet.{reads_cell}
+use Rattle.cell_names.proofs.Grammar.{cell_reads}
 use Rattle.ledger_state.specs.declared.holding.Holding.{Holding}
 use Rattle.ledger_state.specs.Ledger.{pair}
 use Rattle.ledger_state.specs.Spelling.{cell}
@@ -49,8 +49,8 @@ value_is v some = sym (roll-out v) ∙ ap roll-Val (level_is (out-Val v) some) �
 amount_of-Mutez : (n : ℕ) → amount_of (variant.Mutez n) ≡ n
 amount_of-Mutez n = ap amount_of (sym (variant.rolls-Mutez n)) ∙ ap amount_level (out-roll (one.Mutez n))
 
-mutez_good : (d n : ℕ) → n < 2 ^ 63 → IsGood (suc d) (variant.Mutez n)
-mutez_good d n small = good_at d (one.Mutez n) _ (variant.rolls-Mutez n) (record { sound = lt-ltb n (2 ^ 63) small; settled = refl; leaf = refl }) tt
+mutez_good : (d n : ℕ) → n < 2 ^ 63 → IsGood 18 (suc d) (variant.Mutez n)
+mutez_good d n small = good_at 18 d (one.Mutez n) _ (variant.rolls-Mutez n) (record { tag = refl; sound = lt-ltb n (2 ^ 63) small; settled = refl; leaf = lt-ltb n (2 ^ 64) (omega arith) }) tt
 
 -- an amount above 0 with which the supply stays below 2^63
 abbrev pub IsRoom : ℕ → ℕ → Type 0
@@ -69,9 +69,9 @@ amount_bytes n = 5 ∷ to_be_bytes w64 n
 abbrev pub MayHave : Cell → ℕ → ℕ → Type 0
 MayHave c total n = IsTrue (is_implicit (address_of c)) × IsRoom total n
 
-amount_read : (d : ℕ) (c : Cell) (total : ℕ) → ReadsPart (made amount_of (checked (fits c total) (plain (value (suc d))))) amount_bytes (MayHave c total)
+amount_read : (d : ℕ) (c : Cell) (total : ℕ) → Reads (made amount_of (checked (fits c total) (value 18 (suc d)))) amount_bytes (MayHave c total)
 amount_read d c total =
-    reads_made amount_of variant.Mutez amount_bytes (MayHave c total)
+    made_reads amount_of variant.Mutez amount_bytes (MayHave c total)
     (λ v good.
     let room : IsRoom total (amount_of v) = room_from total (amount_of v) (second_so _ _ good.1) in
     (ap spell (value_is v room.0) ∙ spell_mutez (amount_of v), (first_so _ _ good.1, room)))
@@ -79,15 +79,15 @@ amount_read d c total =
     let room : IsRoom total n = good.1 in
     let small : n < 2 ^ 63 = omega arith in
     ((mutez_good d n small, both_so _ _ good.0 (ap (is_room total) (amount_of-Mutez n) ∙ room_to total n room)), amount_of-Mutez n))
-    (reads_checked (fits c total) (reads_plain (value_reads (suc d))))
+    (checked_reads (fits c total) ((value_reads 18 (suc d))))
 
-pub amount_reads : (c : Cell) (total : ℕ) → ReadsPart (amount c total) amount_bytes (MayHave c total)
+pub amount_reads : (c : Cell) (total : ℕ) → Reads (amount c total) amount_bytes (MayHave c total)
 amount_reads c total = amount_read 127 c total
 
 -- ---- a cell and its value
 
-name_reads : (last : Option Cell) → ReadsPart (name last) spell_cell (λ c. IsCell c × IsTrue (is_above last c))
-name_reads last = reads_checked (is_above last) reads_cell
+name_reads : (last : Option Cell) → Reads (name last) spell_cell (λ c. IsCell c × IsTrue (is_above last c))
+name_reads last = checked_reads (is_above last) cell_reads
 
 balance_is : (c : Cell) → c ≡ Balance (address_of c)
 balance_is (Balance a) = refl
@@ -112,33 +112,33 @@ address_from a good =
 abbrev IsOf : Cell → ℕ → Holding → Type 0
 IsOf c total h = (c ≡ Balance h.address) × MayHave c total h.amount
 
-of_cell : (c : Cell) (total : ℕ) → ReadsPart (made (λ n. let h : Holding = record { address = address_of c; amount = n } in h) (amount c total)) (λ h. amount_bytes h.amount) (IsOf c total)
+of_cell : (c : Cell) (total : ℕ) → Reads (made (λ n. let h : Holding = record { address = address_of c; amount = n } in h) (amount c total)) (λ h. amount_bytes h.amount) (IsOf c total)
 of_cell c total =
-    reads_made (λ n. let h : Holding = record { address = address_of c; amount = n } in h) (λ (h : Holding). h.amount) (λ (h : Holding). amount_bytes h.amount) (IsOf c total)
+    made_reads (λ n. let h : Holding = record { address = address_of c; amount = n } in h) (λ (h : Holding). h.amount) (λ (h : Holding). amount_bytes h.amount) (IsOf c total)
     (λ n good. (refl, (balance_is c, good)))
     (λ h good. (good.1, ap (λ (c : Cell). let x : Holding = record { address = address_of c; amount = h.amount } in x) good.0))
     (amount_reads c total)
 
-pub holding_reads : (before : Before) → ReadsPart (holding before) (λ h. cell (pair h)) (Follows before)
+pub holding_reads : (before : Before) → Reads (holding before) (λ h. cell (pair h)) (Follows before)
 holding_reads before =
-    reads_same (λ h. cell (pair h)) (Follows before)
+    reads_as (λ h. cell (pair h)) (Follows before)
     (λ h good. (refl, ((implicit_from h.address good.0.0 good.1.1.0, good.0.1), good.1.1.1)))
     (λ h good. ((address_from h.address good.0.0, good.0.1), (refl, (eq-eqb (slice_index h.address 0) 0 good.0.0.implicit, good.1))))
-    (reads_with (name_reads before.0) (λ c. of_cell c before.1) (λ (h : Holding). Balance h.address) (λ c h good. sym good.0))
+    (with_reads (name_reads before.0) (λ c. of_cell c before.1) (λ (h : Holding). Balance h.address) (λ c h good. sym good.0))
 
 abbrev pub Follow : ℕ → List Holding → Type 0
 Follow = GoodItems Follows next (None, 0)
 
-cells_reads : (n : ℕ) → ReadsPart (cells n) (flat_map (λ h. cell (pair h))) (Follow n)
-cells_reads n = reads_chained next holding_reads (None, 0) n
+cells_reads : (n : ℕ) → Reads (cells n) (flat_map (λ h. cell (pair h))) (Follow n)
+cells_reads n = chained_reads next holding_reads (None, 0) n
 
 -- ---- the contracts and the cells
 
-contracts_reads : ReadsPart contracts (to_be_bytes w32) (λ n. n ≡ 0)
+contracts_reads : Reads contracts (to_be_bytes w32) (λ n. n ≡ 0)
 contracts_reads =
-    reads_same (to_be_bytes w32) (λ n. n ≡ 0) (λ n good. (refl, eqb-true n 0 good.1))
+    reads_as (to_be_bytes w32) (λ n. n ≡ 0) (λ n good. (refl, eqb-true n 0 good.1))
     (λ n none. ((omega arith, le-leb n 1024 (omega arith)), eq-eqb n 0 none))
-    (reads_built (λ n. eqb n 0) (reads_checked (λ n. nat_le n 1024) (reads_plain (number_reads w32 (2 ^ 32) wide32))))
+    (built_reads (λ n. eqb n 0) (checked_reads (λ n. nat_le n 1024) ((number_reads w32 (2 ^ 32) wide32))))
 
 abbrev pub book_bytes : List Holding → List ℕ
 book_bytes hs = to_be_bytes w32 (length hs) ++ flat_map (λ h. cell (pair h)) hs
@@ -146,11 +146,11 @@ book_bytes hs = to_be_bytes w32 (length hs) ++ flat_map (λ h. cell (pair h)) hs
 abbrev pub IsBook : List Holding → Type 0
 IsBook hs = (length hs < 2 ^ 32) × Follow (length hs) hs
 
-counted_reads : ReadsPart (with (plain (number w32)) cells) book_bytes IsBook
-counted_reads = reads_with (reads_plain (number_reads w32 (2 ^ 32) wide32)) cells_reads length (λ n hs good. good.0)
+counted_reads : Reads (with (number w32) cells) book_bytes IsBook
+counted_reads = with_reads ((number_reads w32 (2 ^ 32) wide32)) cells_reads length (λ n hs good. good.0)
 
-pub book_reads : ReadsPart book (λ hs. to_be_bytes w32 0 ++ book_bytes hs) IsBook
+pub book_reads : Reads book (λ hs. to_be_bytes w32 0 ++ book_bytes hs) IsBook
 book_reads =
-    reads_made (λ (p : ℕ × List Holding). p.1) (λ hs. (0, hs)) (λ hs. to_be_bytes w32 0 ++ book_bytes hs) IsBook
+    made_reads (λ (p : ℕ × List Holding). p.1) (λ hs. (0, hs)) (λ hs. to_be_bytes w32 0 ++ book_bytes hs) IsBook
     (λ p good. (ap (λ n. to_be_bytes w32 n ++ book_bytes p.1) good.0, good.1)) (λ hs good. ((refl, good), refl))
-    (reads_both contracts_reads counted_reads)
+    (both_reads contracts_reads counted_reads)

@@ -8,17 +8,18 @@ use Rattle.std.specs.FinMap.{entries, len, len-entries, is_sorted}
 use Rattle.std.specs.FinMap.Entries.{below_all}
 use Rattle.std.proofs.lemmas.List.{length-map}
 use Rattle.std.proofs.lemmas.List.Sums.{sum_by-cons}
-use Rattle.byte_fields.specs.Readers.{number}
-use Rattle.byte_fields.specs.Laws.{IsBytes, AllAlong}
+use Rattle.byte_fields.specs.Readers.{Reader, number, both, behind}
+use Rattle.byte_fields.specs.Laws.{IsBytes, AllAlong, Reads, ReadsWhole}
+use Rattle.byte_fields.proofs.Joined.{both_reads, made_reads}
+use Rattle.byte_fields.proofs.Whole.{whole_reads}
 use Rattle.byte_fields.proofs.Digits.{wide32, wide64}
-use Rattle.byte_fields.proofs.Numbers.{number_reads}
+use Rattle.byte_fields.proofs.Numbers.{behind_reads, number_reads}
 use Rattle.cell_names.specs.declared.cell.Cell as names
 use Rattle.cell_names.specs.declared.cell.Cell.TheVariants.{Balance}
 use Rattle.cell_names.specs.declared.fault.FormatStop.{FormatStop}
-use Rattle.cell_names.specs.Partial.{PartReader, plain, both, behind}
-use Rattle.cell_names.specs.Answers.{Answers}
+use Rattle.byte_fields.specs.Told.{AnswersUnlessFull}
+use Rattle.cell_names.specs.Stops.{format_stop}
 use Rattle.cell_names.specs.Reading.{is_above}
-use Rattle.cell_names.proofs.Forget.{forget, ReadsPart, ReadsAll, reads_plain, reads_both, reads_behind, reads_made, reads_whole}
 use Rattle.ledger_state.specs.declared.holding.Holding.{Holding}
 use Rattle.ledger_state.specs.Ledger.{Ledger, Balances, AreBalances, Ascends, pair}
 use Rattle.ledger_state.specs.Holdings.{AreHoldings, balances_of, ledger_from}
@@ -99,8 +100,8 @@ follow_from_balances m hs is h =
 abbrev Parts : Type 0
 Parts = ℕ × (ℕ × List Holding)
 
-abbrev parts : PartReader Parts
-parts = behind magic (both (plain (number w32)) (both (plain (number w64)) book))
+abbrev parts : Reader Parts
+parts = behind magic (both (number w32) (both (number w64) book))
 
 abbrev from_parts : Parts → Ledger
 from_parts p = ledger_from p.0 p.1.0 p.1.1
@@ -114,8 +115,8 @@ AreParts p = (p.0 < 2 ^ 32) × ((p.1.0 < 2 ^ 64) × IsBook p.1.1)
 abbrev parts_bytes : Parts → List ℕ
 parts_bytes p = magic ++ (to_be_bytes w32 p.0 ++ (to_be_bytes w64 p.1.0 ++ (to_be_bytes w32 0 ++ book_bytes p.1.1)))
 
-parts_reads : ReadsPart parts parts_bytes AreParts
-parts_reads = reads_behind magic (reads_both (reads_plain (number_reads w32 (2 ^ 32) wide32)) (reads_both (reads_plain (number_reads w64 (2 ^ 64) wide64)) book_reads))
+parts_reads : Reads parts parts_bytes AreParts
+parts_reads = behind_reads magic (both_reads ((number_reads w32 (2 ^ 32) wide32)) (both_reads ((number_reads w64 (2 ^ 64) wide64)) book_reads))
 
 abbrev holding_bytes : List Holding → List ℕ
 holding_bytes hs = flat_map (λ h. cell (pair h)) hs
@@ -150,11 +151,11 @@ to_good s good =
       ap (λ (m : Balances). let l : Ledger = record { level = s.level; now = s.now; balances = m } in l) (balances_are hs s.balances is).1,
     )
 
-pub ledger_reads : ReadsAll ledger spelling IsLedger
+pub ledger_reads : ReadsWhole ledger spelling IsLedger
 unfolding ledger
-ledger_reads = reads_whole (reads_made from_parts to_parts spelling IsLedger from_good to_good parts_reads)
+ledger_reads = whole_reads (made_reads from_parts to_parts spelling IsLedger from_good to_good parts_reads)
 
 -- what a book has read are holdings of a state
-pub book_lawful : {X : Type 0} (view : X → List Holding × List ℕ) (bytes : List ℕ) (r : Result X FormatStop) → IsBytes bytes → Answers view r (book bytes) → IfOk r (λ x. AreHoldings (view x).0)
-book_lawful view bytes (Ok x) fits is = AreHoldings-from_follow (length (view x).0) (view x).0 (book_reads.law.takes bytes (view x).0 (view x).1 fits (ap forget is)).1.1
+pub book_lawful : {X : Type 0} (view : X → List Holding × List ℕ) (bytes : List ℕ) (r : Result X FormatStop) → IsBytes bytes → AnswersUnlessFull format_stop view r (book bytes) → IfOk r (λ x. AreHoldings (view x).0)
+book_lawful view bytes (Ok x) fits is = AreHoldings-from_follow (length (view x).0) (view x).0 (book_reads.takes bytes (view x).0 (view x).1 fits is).1.1
 book_lawful view bytes (Err e) fits is = tt

@@ -2,20 +2,20 @@
 use Rattle.std.specs.Prelude.{ℕ, ◌+◌, ◌^◌, ◌&&◌, Bool, List, length, Option, Some, None, Result, nat_lt, nat_le, ◌==◌, map}
 use Rattle.std.specs.Int.{w32, w64}
 use Rattle.std.specs.FinMap.{from_sorted}
-use Rattle.byte_fields.specs.Readers.{number}
+use Rattle.byte_fields.specs.Stops.{Stop}
+use Rattle.byte_fields.specs.Readers.{Reader, number, made, both, with, checked, built, chained, behind, whole}
+use Rattle.byte_fields.specs.Told.{alone}
 use Rattle.value_core.specs.declared.val.Val.{Val}
 use Rattle.value_core.specs.declared.val.Val.TheOpen as one
 use Rattle.value_core.specs.declared.val.Val.TheViews.{out-Val}
 use Rattle.value_core.specs.Layer.{Layer}
+use Rattle.value_codec.specs.declared.tag.TheConstants.{ANY_VALUE}
 use Rattle.value_codec.specs.Reading.{value}
 use Rattle.cell_names.specs.declared.cell.Cell.{Cell}
 use Rattle.cell_names.specs.declared.cell.Cell.TheVariants.{Balance}
-use Rattle.cell_names.specs.declared.fault.FormatFault.{FormatFault}
 use Rattle.cell_names.specs.Accounts.{is_implicit}
 use Rattle.cell_names.specs.Cells.{address_of}
-use Rattle.cell_names.specs.Partial.{PartReader, plain, made, both, with, checked, built, chained, behind, whole}
-use Rattle.cell_names.specs.Answers.{told_alone}
-use Rattle.cell_names.specs.Reading.{is_above, cell_or_later}
+use Rattle.cell_names.specs.Reading.{is_above, cell as cell_name}
 use Rattle.ledger_state.specs.declared.holding.Holding.{Holding}
 use Rattle.ledger_state.specs.Ledger.{Ledger, pair}
 use Rattle.ledger_state.specs.Spelling.{magic}
@@ -38,12 +38,12 @@ abbrev pub fits : Cell → ℕ → Val → Bool
 fits c total v = is_implicit (address_of c) && is_room total (amount_of v)
 
 -- a cell that stands above the last one, told at its first byte
-abbrev pub name : Option Cell → PartReader Cell
-name last = checked (is_above last) cell_or_later
+abbrev pub name : Option Cell → Reader Cell
+name last = checked (is_above last) cell_name
 
 -- the value of a cell, which is read whole before it is judged
-abbrev pub amount : Cell → ℕ → PartReader ℕ
-amount c total = made amount_of (checked (fits c total) (plain (value 128)))
+abbrev pub amount : Cell → ℕ → Reader ℕ
+amount c total = made amount_of (checked (fits c total) (value ANY_VALUE 128))
 
 -- what stands before a cell: the last one and the supply so far
 abbrev pub Before : Type 0
@@ -54,27 +54,27 @@ abbrev pub next : Before → Holding → Before
 next before h = (Some (Balance h.address), before.1 + h.amount)
 
 -- a cell and its value, by what stands before
-abbrev pub holding : Before → PartReader Holding
+abbrev pub holding : Before → Reader Holding
 holding before = with (name before.0) (λ c. made (λ n. record { address = address_of c; amount = n }) (amount c before.1))
 
 -- so many cells
-abbrev pub cells : ℕ → PartReader (List Holding)
+abbrev pub cells : ℕ → Reader (List Holding)
 cells = chained holding next (None, 0)
 
 -- the number of contracts: at most 1,024, of which one or more aren't built
-abbrev pub contracts : PartReader ℕ
-contracts = built (λ n. n == 0) (checked (λ n. nat_le n 1024) (plain (number w32)))
+abbrev pub contracts : Reader ℕ
+contracts = built (λ n. n == 0) (checked (λ n. nat_le n 1024) (number w32))
 
 -- the contracts, and then the cells with their number before them
-abbrev pub book : PartReader (List Holding)
-book = made (λ p. p.1) (both contracts (with (plain (number w32)) cells))
+abbrev pub book : Reader (List Holding)
+book = made (λ p. p.1) (both contracts (with (number w32) cells))
 
 -- all of the bytes
-unfoldable pub ledger : PartReader Ledger
+unfoldable pub ledger : Reader Ledger
 ledger =
     whole (made (λ p. record { level = p.0; now = p.1.0; balances = from_sorted (map pair p.1.1) })
-    (behind magic (both (plain (number w32)) (both (plain (number w64)) book))))
+    (behind magic (both (number w32) (both (number w64) book))))
 
--- the ledger, or the fault with its place
-abbrev pub ledger_of : List ℕ → Result Ledger FormatFault
-ledger_of bytes = told_alone (length bytes) (ledger bytes)
+-- the ledger, or the place of the fault or of what isn't built
+abbrev pub ledger_of : List ℕ → Result Ledger Stop
+ledger_of bytes = alone (length bytes) (ledger bytes)

@@ -1,6 +1,6 @@
 //! Where an address stands among holdings, and holdings with changes put in.
 
-ghost use Rattle.std.specs.Prelude.{◌≡◌, ◌≤◌, ◌++◌, ◌↔◌, length, take, drop, map, IsTrue, IfOk, OnOk};
+ghost use Rattle.std.specs.Prelude.{◌≡◌, ◌+◌, ◌≤◌, ◌++◌, ◌↔◌, length, take, drop, map, IsTrue, IfOk, OnOk};
 ghost use Rattle.std.specs.List.{list_all};
 ghost use Rattle.std.specs.FinMap.{entries};
 ghost use Rattle.ledger_state.specs.Ledger.{Ascends, changed, pair};
@@ -18,7 +18,7 @@ pub fn place_in(holdings: &[Holding], address: &Address) -> usize
     ensures below { IsTrue (list_all (is_below address.now) (take result holdings.now)) }
     ensures others { IsTrue (list_all (is_not_below address.now) (drop result holdings.now)) }
 {
-    holdings.partition_point(|holding| holding.address.bytes().cmp(address.bytes()).is_lt())
+    holdings.partition_point(|holding| holding.address < *address)
 }
 
 /// What the first holding has, where that is the address's.
@@ -72,6 +72,13 @@ fn put(out: &mut Vec<Holding>, holding: &Holding) -> Result<(), NoMemory>
     Ok(())
 }
 
+/// Room for all holdings and all changes, which is the most that can stand at the end.
+fn capacity(holdings: &[Holding], changes: &[Holding]) -> usize
+    ensures { result ≤ length holdings.now + length changes.now }
+{
+    holdings.len().saturating_add(changes.len())
+}
+
 /// The holdings, where each account that is changed has what its change says.
 pub fn merged(
     alloc: Global,
@@ -83,7 +90,7 @@ pub fn merged(
     ensures { IfOk result (λ v. map pair v.items
         ≡ entries (changed (balances_of holdings.now) changes.now)) }
 {
-    let mut out = Vec::with_capacity(alloc, holdings.len().saturating_add(changes.len()))?;
+    let mut out = Vec::with_capacity(alloc, capacity(holdings, changes))?;
     let mut rest = holdings;
     for change in changes {
         let (front, back) = rest.split_at(place_in(rest, &change.address));

@@ -1,46 +1,47 @@
 //! Reading a ledger from its file.
 
-ghost use Rattle.std.specs.Prelude.{◌≡◌, ◌+◌, ◌<◌, ◌^◌, [], IfOk};
+ghost use Rattle.std.specs.Prelude.{◌≡◌, ◌+◌, ◌*◌, ◌<◌, ◌≤◌, ◌^◌, [], length, IfOk};
 ghost use Rattle.std.specs.Option.{option_map};
 ghost use Rattle.cell_names.specs.declared.cell.Cell.TheVariants.{Balance};
-ghost use Rattle.cell_names.specs.Answers.{Answers, IsTold};
+ghost use Rattle.byte_fields.specs.Laws.{TellsWhole};
+ghost use Rattle.byte_fields.specs.Told.{Answers, AnswersUnlessFull};
+ghost use Rattle.cell_names.specs.Stops.{field_stop, format_stop, format_fault};
 ghost use Rattle.cell_names.specs.Reading.{is_above};
 ghost use Rattle.ledger_state.specs.Holdings.{AreHoldings, ledger_from};
-ghost use Rattle.ledger_state.specs.Ledger.{Ledger};
 ghost use Rattle.ledger_state.specs.Reading.{amount, amount_of, book, cells, contracts, holding, ledger, ledger_of, name};
 ghost use Rattle.ledger_state.specs.Spelling.{IsLedger, spelling};
 
 use crate::holding::Holding;
 use crate::state::State;
 use byte_fields::{mark_of, u32_at, u64_at};
-use cell_names::{Cell, FormatFault, FormatStop, Head, cell_at, fault_at, order};
+use cell_names::{Cell, FieldStop, FormatFault, FormatStop, Head, cell_at, fault_at};
 use std::alloc::Global;
-use value_codec::value_at;
+use value_codec::{ANY_VALUE, value_at};
 use value_core::{Address, Val};
 
 /// The bytes of a cell and its value.
 const CELL: usize = 32;
 
-fn stands_above(last: Option<Address>, cell: &Cell) -> bool
-    ensures { result ≡ is_above (option_map Balance last) cell.now }
+fn stands_above(last: Option<Address>, address: &Address) -> bool
+    ensures { result ≡ is_above (option_map Balance last) (Balance address.now) }
 {
     match last {
         None => true,
-        Some(last) => order(&Cell::Balance(last), cell).is_lt(),
+        Some(last) => last < *address,
     }
 }
 
 /// The account whose balance is named, which has to stand above the last one.
-fn name_at(last: Option<Address>, bytes: &[u8]) -> Result<(Address, &[u8]), FormatStop>
-    ensures { Answers (λ x. (Balance x.0, x.1.now)) result
+fn name_at(last: Option<Address>, bytes: &[u8]) -> Result<(Address, &[u8]), FieldStop>
+    ensures { Answers field_stop (λ x. (Balance x.0, x.1.now)) result
         (name (option_map Balance last) bytes.now) }
 {
     match cell_at(bytes) {
         Ok((cell, rest)) => {
-            if !stands_above(last, &cell) {
-                return Err(FormatStop::Left(bytes.len()));
-            }
             let Cell::Balance(address) = cell;
+            if !stands_above(last, &address) {
+                return Err(FieldStop::Left(bytes.len()));
+            }
             Ok((address, rest))
         }
         Err(stop) => Err(stop),
@@ -66,9 +67,10 @@ fn amount_at(
 ) -> Result<(u64, &[u8]), FormatStop>
     requires { total < 2 ^ 63 }
     ensures within { IfOk result (λ x. total + x.0 < 2 ^ 63) }
-    ensures read { Answers (λ x. (x.0, x.1.now)) result (amount (Balance address) total bytes.now) }
+    ensures read { AnswersUnlessFull format_stop (λ x. (x.0, x.1.now)) result
+        (amount (Balance address) total bytes.now) }
 {
-    let (value, rest) = value_at(alloc, 128, bytes)?;
+    let (value, rest) = value_at(alloc, ANY_VALUE, 128, bytes)?;
     let amount = amount_of(&value);
     if address.is_contract() || amount == 0 || amount >= (1 << 63) - total {
         return Err(FormatStop::Left(bytes.len()));
@@ -84,22 +86,30 @@ fn holding_at(
 ) -> Result<(Holding, &[u8]), FormatStop>
     requires { total < 2 ^ 63 }
     ensures within { IfOk result (λ x. total + x.0.amount < 2 ^ 63) }
-    ensures read { Answers (λ x. (x.0, x.1.now)) result
+    ensures read { AnswersUnlessFull format_stop (λ x. (x.0, x.1.now)) result
         (holding (option_map Balance last, total) bytes.now) }
 {
     match name_at(last, bytes) {
-        Ok((address, rest)) => match amount_at(alloc, address, total, rest) {
-            Ok((amount, rest)) => Ok((Holding { address, amount }, rest)),
-            Err(stop) => Err(stop),
-        },
-        Err(stop) => Err(stop),
+        Ok((address, rest)) => {
+            let (amount, rest) = amount_at(alloc, address, total, rest)?;
+            Ok((Holding { address, amount }, rest))
+        }
+        Err(stop) => Err(FormatStop::from(stop)),
     }
 }
 
-fn cells_at(alloc: Global, count: u32, bytes: &[u8]) -> Result<(Vec<Holding>, &[u8]), FormatStop>
-    ensures { Answers (λ x. (x.0.items, x.1.now)) result (cells count bytes.now) }
+/// Room for the holdings that are told, but for no more than the bytes can spell.
+fn capacity(count: u32, bytes: &[u8]) -> usize
+    ensures { 32 * result ≤ length bytes.now }
 {
-    let mut holdings = Vec::with_capacity(alloc, (count as usize).min(bytes.len() / CELL))?;
+    (count as usize).min(bytes.len() / CELL)
+}
+
+fn cells_at(alloc: Global, count: u32, bytes: &[u8]) -> Result<(Vec<Holding>, &[u8]), FormatStop>
+    ensures { AnswersUnlessFull format_stop (λ x. (x.0.items, x.1.now)) result
+        (cells count bytes.now) }
+{
+    let mut holdings = Vec::with_capacity(alloc, capacity(count, bytes))?;
     let mut last = None;
     let mut total = 0u64;
     let mut rest = bytes;
@@ -118,34 +128,31 @@ fn cells_at(alloc: Global, count: u32, bytes: &[u8]) -> Result<(Vec<Holding>, &[
 }
 
 /// The bytes after the number of contracts, of which none are built.
-fn contracts_at(bytes: &[u8]) -> Result<(u32, &[u8]), FormatStop>
-    ensures { Answers (λ x. (x.0, x.1.now)) result (contracts bytes.now) }
+fn contracts_at(bytes: &[u8]) -> Result<(u32, &[u8]), FieldStop>
+    ensures { Answers field_stop (λ x. (x.0, x.1.now)) result (contracts bytes.now) }
 {
     let (count, rest) = u32_at(bytes)?;
     if count > 1024 {
-        return Err(FormatStop::Left(bytes.len()));
+        return Err(FieldStop::Left(bytes.len()));
     }
     if count > 0 {
-        return Err(FormatStop::NotYet(bytes.len()));
+        return Err(FieldStop::NotYet(bytes.len()));
     }
     Ok((count, rest))
 }
 
 fn book_at(alloc: Global, bytes: &[u8]) -> Result<(Vec<Holding>, &[u8]), FormatStop>
-    ensures { Answers (λ x. (x.0.items, x.1.now)) result (book bytes.now) }
+    ensures { AnswersUnlessFull format_stop (λ x. (x.0.items, x.1.now)) result (book bytes.now) }
 {
-    match contracts_at(bytes) {
-        Ok((_, rest)) => {
-            let (count, rest) = u32_at(rest)?;
-            cells_at(alloc, count, rest)
-        }
-        Err(stop) => Err(stop),
-    }
+    let (_, rest) = contracts_at(bytes)?;
+    let (count, rest) = u32_at(rest)?;
+    cells_at(alloc, count, rest)
 }
 
 fn holdings_at(alloc: Global, bytes: &[u8]) -> Result<(Vec<Holding>, &[u8]), FormatStop>
     ensures lawful { IfOk result (λ x. AreHoldings x.0.items) }
-    ensures read { Answers (λ x. (x.0.items, x.1.now)) result (book bytes.now) }
+    ensures read { AnswersUnlessFull format_stop (λ x. (x.0.items, x.1.now)) result
+        (book bytes.now) }
 {
     book_at(alloc, bytes)
 }
@@ -154,8 +161,8 @@ fn holdings_at(alloc: Global, bytes: &[u8]) -> Result<(Vec<Holding>, &[u8]), For
 #[tactic(auto, unfolding(crate::specs::Reading::ledger))]
 fn parts_at(alloc: Global, bytes: &[u8]) -> Result<(Head, Vec<Holding>), FormatStop>
     ensures lawful { IfOk result (λ x. AreHoldings x.1.items) }
-    ensures read { Answers (λ x. (ledger_from x.0.level x.0.now x.1.items, [])) result
-        (ledger bytes.now) }
+    ensures read { AnswersUnlessFull format_stop
+        (λ x. (ledger_from x.0.level x.0.now x.1.items, [])) result (ledger bytes.now) }
 {
     let rest = mark_of(b"FJS1", bytes)?;
     let (level, rest) = u32_at(rest)?;
@@ -172,7 +179,7 @@ fn parts_at(alloc: Global, bytes: &[u8]) -> Result<(Head, Vec<Holding>), FormatS
 }
 
 fn state_of(alloc: Global, bytes: &[u8]) -> Result<State, FormatFault>
-    ensures { IsTold result (ledger_of bytes.now) }
+    ensures { AnswersUnlessFull format_fault (λ x. x) result (ledger_of bytes.now) }
 {
     match parts_at(alloc, bytes) {
         Ok((head, holdings)) => Ok(State::of(head, holdings)),
@@ -185,9 +192,9 @@ pub fn read_state(alloc: Global, bytes: &[u8]) -> Result<State, FormatFault>
     // What is read is spelt so.
     ensures found { IfOk result (λ s. IsLedger s × (bytes.now ≡ spelling s)) }
     // What is spelt so is read, unless memory runs out.
-    ensures only { (s : Ledger) → IsLedger s → bytes.now ≡ spelling s → IsTold result (Ok s) }
+    ensures only { TellsWhole format_fault spelling IsLedger bytes.now result }
     // Which fault it is, or what isn't built.
-    ensures place { IsTold result (ledger_of bytes.now) }
+    ensures place { AnswersUnlessFull format_fault (λ x. x) result (ledger_of bytes.now) }
 {
     state_of(alloc, bytes)
 }

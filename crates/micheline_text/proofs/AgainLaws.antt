@@ -12,12 +12,12 @@ use Rattle.micheline_text.specs.declared.node.Body.TheOpen.{Body-F, Node-F}
 use Rattle.micheline_text.specs.declared.node.Body.TheViews.{roll-Body}
 use Rattle.micheline_text.specs.declared.node.Body.TheFolds.{fold-roll-Body, fold-roll-Node, map-Body}
 use Rattle.micheline_text.specs.declared.token.Token.TheVariants as token
-use Rattle.micheline_text.specs.Reading.{node_at}
 use Rattle.micheline_text.specs.Layout.{IsLaidOut}
-use Rattle.micheline_text.specs.Grammar.{Tokens, IsLiteral, Bracket, Brace, Paren, IsRest, Piece, Note, Arg, notes_of, args_of, ArePieces, IsApplication, IsArgument, IsNode, IsBracketed, IsTextWithin, IsText}
+use Rattle.micheline_text.specs.Grammar.{Tokens, IsLiteral, Bracket, Brace, Paren, IsRest, Piece, Note, Arg, notes_of, args_of, ArePieces, IsApplication, IsArgument, IsNode, IsBracketed, IsTextWithin, IsText, node_at}
 use Rattle.micheline_text.specs.Printed.{Print, argument, annotation, next_item, braces, print_body, print, printed}
 use Rattle.micheline_text.specs.Text.{IsTextOf}
-use Rattle.micheline_text.specs.Again.{unplaced, unplaced_body, IsNote, IsFitLiteral, IsFitApplication, IsFitArgument, IsFitNode, IsInside, IsPrintable, IsTextOfOne}
+use Rattle.micheline_text.specs.Again.{unplaced, unplaced_body, IsTextOfOne}
+use Rattle.micheline_text.specs.Fits.{IsNote, IsFitLiteral, IsFitApplication, IsFitArgument, IsFitNode, IsInside, IsPrintable}
 use Rattle.micheline_text.proofs.PrintLemmas.{print_is, print_int, print_text, print_bytes, print_prim, print_seq}
 use Rattle.micheline_text.proofs.Lays.{Follows, Lays, lays_blank, lays_one, lays_then, lays_none, lays_word, lays_note, lays_text, lays_number, lays_bytes, lays_mark}
 

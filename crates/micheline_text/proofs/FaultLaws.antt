@@ -10,25 +10,26 @@ use Rattle.micheline_text.specs.declared.level.Level.TheVariants as level
 use Rattle.micheline_text.specs.declared.level.Open.{Open}
 use Rattle.micheline_text.specs.declared.token.Token.{Token}
 use Rattle.micheline_text.specs.declared.token.Token.TheVariants as token
-use Rattle.micheline_text.specs.Reading.{State, node_at, taken, named, noted, parted, ended, applied, takes_literal, takes_argument, after, within, opened, step, close_brace, close_paren, first_open}
-use Rattle.micheline_text.specs.Grammar.{Bracket, Brace, Paren, begins}
+use Rattle.micheline_text.specs.Reading.{State, taken, named, noted, parted, ended, applied, takes_literal, takes_argument, after, within, opened, step, close_brace, close_paren, first_open}
+use Rattle.micheline_text.specs.Grammar.{Bracket, Brace, Paren, begins, node_at}
 use Rattle.micheline_text.proofs.Spelt.{allows}
 
 -- ---- what a step that fails tells
 
 abbrev pub StepFault : ℕ → Token → Level → List Open → TextFault → Type 0
-StepFault at t l os (fault.BadToken p) = (p ≡ at) × (t ≡ token.Wide → takes_literal l ≡ false) × ((k : Bracket) → t ≡ begins k → allows k l ≡ false)
+StepFault at t l os (fault.BadToken p) = (p ≡ at) × (t ≡ token.Wide → takes_literal l ≡ false) × ((k : Bracket) → t ≡ begins k → allows k l ≡ false) ×
+    (t ≡ token.OpenComment → ⊥) × (t ≡ token.OpenText → takes_literal l ≡ false)
 StepFault at t l os (fault.WiderNumber p) = (p ≡ at) × (t ≡ token.Wide) × (takes_literal l ≡ true)
 StepFault at t l os (fault.TooDeep p) = (p ≡ at) × ((k : Bracket) × (t ≡ begins k) × (allows k l ≡ true)) × (256 ≤ length os)
 StepFault at t l os (fault.Unclosed p) = (p ≡ first_open os at) × ((t ≡ token.OpenComment) ⊎ ((t ≡ token.OpenText) × (takes_literal l ≡ true)))
 StepFault at t l os fault.NoMemory = ⊥
 
--- a token that is neither too wide nor a bracket that opens
+-- a token that is neither too wide nor a bracket that opens, nor without an end
 abbrev pub IsPlain : Token → Type 0
-IsPlain t = (t ≡ token.Wide → ⊥) × ((k : Bracket) → t ≡ begins k → ⊥)
+IsPlain t = (t ≡ token.Wide → ⊥) × ((k : Bracket) → t ≡ begins k → ⊥) × (t ≡ token.OpenComment → ⊥) × (t ≡ token.OpenText → ⊥)
 
 bad : (at : ℕ) (t : Token) (l : Level) (os : List Open) (f : TextFault) → IsPlain t → fault.BadToken at ≡ f → StepFault at t l os f
-bad at t l os f p e = subst (StepFault at t l os) e (refl, (λ is. absurd (p.0 is)), (λ k is. absurd (p.1 k is)))
+bad at t l os f p e = subst (StepFault at t l os) e (refl, (λ is. absurd (p.0 is)), (λ k is. absurd (p.1 k is)), p.2, (λ is. absurd (p.3 is)))
 
 pub fault_is : {A : Type 0} (e f : TextFault) → Path (Result A TextFault) (Err e) (Err f) → e ≡ f
 fault_is e f p = cc
@@ -98,14 +99,22 @@ same_bracket Brace Paren e = absurd cc
 same_bracket Paren Brace e = absurd cc
 same_bracket Paren Paren e = refl
 
-never_wide : (k : Bracket) → begins k ≡ token.Wide → ⊥
+pub never_wide : (k : Bracket) → begins k ≡ token.Wide → ⊥
 never_wide Brace e = cc
 never_wide Paren e = cc
+
+pub never_open : (k : Bracket) → begins k ≡ token.OpenComment → ⊥
+never_open Brace e = cc
+never_open Paren e = cc
+
+pub never_text : (k : Bracket) → begins k ≡ token.OpenText → ⊥
+never_text Brace e = cc
+never_text Paren e = cc
 
 opened_fault : (k : Bracket) (allowed : Bool) (inner : Level) (at : ℕ) (l : Level) (os : List Open) (f : TextFault) → allows k l ≡ allowed → opened allowed inner at l os ≡ Err f → StepFault at (begins k) l os f
 opened_fault k false inner at l os f is e =
     subst (StepFault at (begins k) l os) (fault_is (fault.BadToken at) f e)
-    (refl, (λ wide. absurd (never_wide k wide)), (λ j same. ap (λ (x : Bracket). allows x l) (sym (same_bracket k j same)) ∙ is))
+    (refl, (λ wide. absurd (never_wide k wide)), (λ j same. ap (λ (x : Bracket). allows x l) (sym (same_bracket k j same)) ∙ is), never_open k, (λ text. absurd (never_text k text)))
 opened_fault k true inner at l os f is e = room (leb_tells 256 (length os)) e
   where
     room : ((leb 256 (length os) ≡ true) × (256 ≤ length os)) ⊎ ((leb 256 (length os) ≡ false) × (length os < 256)) → opened true inner at l os ≡ Err f → StepFault at (begins k) l os f
@@ -119,18 +128,15 @@ opened_fault k true inner at l os f is e = room (leb_tells 256 (length os)) e
 
 wide_fault : (at : ℕ) (l : Level) (os : List Open) (f : TextFault) (b : Bool) → takes_literal l ≡ b → cond b (fault.WiderNumber at) (fault.BadToken at) ≡ f → StepFault at token.Wide l os f
 wide_fault at l os f true is e = subst (StepFault at token.Wide l os) e (refl, refl, is)
-wide_fault at l os f false is e = subst (StepFault at token.Wide l os) e (refl, (λ w. is), (λ k same. absurd (never_wide k (sym same))))
+wide_fault at l os f false is e = subst (StepFault at token.Wide l os) e (refl, (λ w. is), (λ k same. absurd (never_wide k (sym same))), (λ h. cc), (λ h. absurd cc))
 
 text_fault : (at : ℕ) (l : Level) (os : List Open) (f : TextFault) (b : Bool) → takes_literal l ≡ b → cond b (fault.Unclosed (first_open os at)) (fault.BadToken at) ≡ f → StepFault at token.OpenText l os f
 text_fault at l os f true is e = subst (StepFault at token.OpenText l os) e (refl, inr (refl, is))
-text_fault at l os f false is e = bad at token.OpenText l os f ((λ h. cc), λ k. plain k) e
-  where
-    plain : (k : Bracket) → token.OpenText ≡ begins k → ⊥
-    plain Brace h = cc
-    plain Paren h = cc
+text_fault at l os f false is e =
+    subst (StepFault at token.OpenText l os) e (refl, (λ h. absurd cc), (λ k same. absurd (never_text k (sym same))), (λ h. cc), (λ h. is))
 
-other : (t : Token) → (t ≡ token.Wide → ⊥) → (t ≡ token.OpenBrace → ⊥) → (t ≡ token.OpenParen → ⊥) → IsPlain t
-other t w b p = (w, λ k. pick k)
+other : (t : Token) → (t ≡ token.Wide → ⊥) → (t ≡ token.OpenBrace → ⊥) → (t ≡ token.OpenParen → ⊥) → (t ≡ token.OpenComment → ⊥) → (t ≡ token.OpenText → ⊥) → IsPlain t
+other t w b p c s = (w, (λ k. pick k), c, s)
   where
     pick : (k : Bracket) → t ≡ begins k → ⊥
     pick Brace e = b e
@@ -138,19 +144,19 @@ other t w b p = (w, λ k. pick k)
 
 pub step_fault : (at : ℕ) (t : Token) (l : Level) (os : List Open) (f : TextFault) → step at t l os ≡ Err f → StepFault at t l os f
 step_fault at (token.Number z) l os f e =
-    bad at (token.Number z) l os f (other (token.Number z) (λ h. cc) (λ h. cc) (λ h. cc)) (taken_bad at l (node_at at (body.Int z)) f (within_fails os (taken at l (node_at at (body.Int z))) f e))
+    bad at (token.Number z) l os f (other (token.Number z) (λ h. cc) (λ h. cc) (λ h. cc) (λ h. cc) (λ h. cc)) (taken_bad at l (node_at at (body.Int z)) f (within_fails os (taken at l (node_at at (body.Int z))) f e))
 step_fault at (token.Text t) l os f e =
-    bad at (token.Text t) l os f (other (token.Text t) (λ h. cc) (λ h. cc) (λ h. cc)) (taken_bad at l (node_at at (body.Text t)) f (within_fails os (taken at l (node_at at (body.Text t))) f e))
+    bad at (token.Text t) l os f (other (token.Text t) (λ h. cc) (λ h. cc) (λ h. cc) (λ h. cc) (λ h. cc)) (taken_bad at l (node_at at (body.Text t)) f (within_fails os (taken at l (node_at at (body.Text t))) f e))
 step_fault at (token.Bytes t) l os f e =
-    bad at (token.Bytes t) l os f (other (token.Bytes t) (λ h. cc) (λ h. cc) (λ h. cc)) (taken_bad at l (node_at at (body.Bytes t)) f (within_fails os (taken at l (node_at at (body.Bytes t))) f e))
-step_fault at (token.Word w) l os f e = bad at (token.Word w) l os f (other (token.Word w) (λ h. cc) (λ h. cc) (λ h. cc)) (named_bad at l w f (within_fails os (named at l w) f e))
-step_fault at (token.Note w) l os f e = bad at (token.Note w) l os f (other (token.Note w) (λ h. cc) (λ h. cc) (λ h. cc)) (noted_bad at l w f (within_fails os (noted at l w) f e))
+    bad at (token.Bytes t) l os f (other (token.Bytes t) (λ h. cc) (λ h. cc) (λ h. cc) (λ h. cc) (λ h. cc)) (taken_bad at l (node_at at (body.Bytes t)) f (within_fails os (taken at l (node_at at (body.Bytes t))) f e))
+step_fault at (token.Word w) l os f e = bad at (token.Word w) l os f (other (token.Word w) (λ h. cc) (λ h. cc) (λ h. cc) (λ h. cc) (λ h. cc)) (named_bad at l w f (within_fails os (named at l w) f e))
+step_fault at (token.Note w) l os f e = bad at (token.Note w) l os f (other (token.Note w) (λ h. cc) (λ h. cc) (λ h. cc) (λ h. cc) (λ h. cc)) (noted_bad at l w f (within_fails os (noted at l w) f e))
 step_fault at token.OpenBrace l os f e = opened_fault Brace (takes_literal l) (level.Start []) at l os f refl e
-step_fault at token.CloseBrace l os f e = bad at token.CloseBrace l os f (other token.CloseBrace (λ h. cc) (λ h. cc) (λ h. cc)) (brace_bad at l os f e)
+step_fault at token.CloseBrace l os f e = bad at token.CloseBrace l os f (other token.CloseBrace (λ h. cc) (λ h. cc) (λ h. cc) (λ h. cc) (λ h. cc)) (brace_bad at l os f e)
 step_fault at token.OpenParen l os f e = opened_fault Paren (takes_argument l) level.Head at l os f refl e
-step_fault at token.CloseParen l os f e = bad at token.CloseParen l os f (other token.CloseParen (λ h. cc) (λ h. cc) (λ h. cc)) (paren_bad at l os f e)
-step_fault at token.Semicolon l os f e = bad at token.Semicolon l os f (other token.Semicolon (λ h. cc) (λ h. cc) (λ h. cc)) (parted_bad at l f (within_fails os (parted at l) f e))
+step_fault at token.CloseParen l os f e = bad at token.CloseParen l os f (other token.CloseParen (λ h. cc) (λ h. cc) (λ h. cc) (λ h. cc) (λ h. cc)) (paren_bad at l os f e)
+step_fault at token.Semicolon l os f e = bad at token.Semicolon l os f (other token.Semicolon (λ h. cc) (λ h. cc) (λ h. cc) (λ h. cc) (λ h. cc)) (parted_bad at l f (within_fails os (parted at l) f e))
 step_fault at token.Wide l os f e = wide_fault at l os f (takes_literal l) refl (fault_is (cond (takes_literal l) (fault.WiderNumber at) (fault.BadToken at)) f e)
 step_fault at token.OpenText l os f e = text_fault at l os f (takes_literal l) refl (fault_is (cond (takes_literal l) (fault.Unclosed (first_open os at)) (fault.BadToken at)) f e)
 step_fault at token.OpenComment l os f e = subst (StepFault at token.OpenComment l os) (fault_is (fault.Unclosed (first_open os at)) f e) (refl, inl refl)
-step_fault at token.Faulty l os f e = bad at token.Faulty l os f (other token.Faulty (λ h. cc) (λ h. cc) (λ h. cc)) (fault_is (fault.BadToken at) f e)
+step_fault at token.Faulty l os f e = bad at token.Faulty l os f (other token.Faulty (λ h. cc) (λ h. cc) (λ h. cc) (λ h. cc) (λ h. cc)) (fault_is (fault.BadToken at) f e)

@@ -12,8 +12,8 @@ use Rattle.micheline_text.specs.declared.level.Level.TheVariants as level
 use Rattle.micheline_text.specs.declared.level.Open.{Open}
 use Rattle.micheline_text.specs.declared.token.Token.{Token}
 use Rattle.micheline_text.specs.declared.token.Token.TheVariants as token
-use Rattle.micheline_text.specs.Reading.{State, node_at, taken, named, noted, parted, ended, applied, takes_literal, takes_argument, after, within, opened, step, run, finish, first_open}
-use Rattle.micheline_text.specs.Grammar.{Tokens, Bracket, Brace, Paren}
+use Rattle.micheline_text.specs.Reading.{State, taken, named, noted, parted, ended, applied, takes_literal, takes_argument, after, within, opened, step, run, finish, first_open}
+use Rattle.micheline_text.specs.Grammar.{Tokens, Bracket, Brace, Paren, node_at}
 use Rattle.micheline_text.specs.Faults.{LiteralGoes, BracketGoes, open_after, open_places, outermost, IsStuck, IsNoOther, IsFault}
 use Rattle.micheline_text.proofs.Spelt.{fed, allows, literal_taken}
 use Rattle.micheline_text.proofs.Held.{after_ok, within_ok}
@@ -58,7 +58,7 @@ open_places-push places (u ∷ ts) t = open_places-push (open_after places u.0 u
 abbrev pub IsPlaced : Tokens → State → Type 0
 IsPlaced ts s = map place_of s.1 ≡ open_places [] ts
 
-placed_next : (ts : Tokens) (s next : State) (t : ℕ × Token) → IsPlaced ts s → step t.0 t.1 s.0 s.1 ≡ Ok next → IsPlaced (ts ++ t ∷ []) next
+pub placed_next : (ts : Tokens) (s next : State) (t : ℕ × Token) → IsPlaced ts s → step t.0 t.1 s.0 s.1 ≡ Ok next → IsPlaced (ts ++ t ∷ []) next
 placed_next ts s next t p e = step_places t.0 t.1 s.0 s.1 next e ∙ ap (λ (x : List ℕ). open_after x t.0 t.1) p ∙ sym (open_places-push [] ts t)
 
 abbrev pub front_place : List Open → ℕ → ℕ
@@ -68,13 +68,13 @@ front_more : (os : List Open) (o : Open) (at : ℕ) → front_place (os ++ o ∷
 front_more [] o at = refl
 front_more (p ∷ os) o at = refl
 
-first_is : (os : List Open) (at : ℕ) → first_open os at ≡ outermost (map place_of os) at
+pub first_is : (os : List Open) (at : ℕ) → first_open os at ≡ outermost (map place_of os) at
 first_is [] at = refl
 first_is (o ∷ os) at = ap (λ (x : List Open). front_place x at) (reverse-append (o ∷ []) os) ∙ front_more (reverse os) o at ∙ first_is os o.at
 
 -- ---- what can follow
 
-literal_follows : (ts : Tokens) (s : State) (at : ℕ) → Arrives ts s → takes_literal s.0 ≡ true → LiteralGoes ts at
+pub literal_follows : (ts : Tokens) (s : State) (at : ℕ) → Arrives ts s → takes_literal s.0 ≡ true → LiteralGoes ts at
 literal_follows ts s at a e =
     let n = node_at at (body.Int (pos 0)) in
     let next : step at (token.Number (pos 0)) s.0 s.1 ≡ Ok (fed s.0 n, s.1) = rw (literal_taken at s.0 n e) refl in
@@ -101,14 +101,14 @@ noted_ever at (level.Args ns a) os n e = (_, refl)
 noted_ever at level.Head os n e = absurd cc
 noted_ever at (level.Inner a) os n e = (_, refl)
 
-bracket_follows : (k : Bracket) (ts : Tokens) (s : State) (at : ℕ) → Arrives ts s → allows k s.0 ≡ true → BracketGoes k ts at
+pub bracket_follows : (k : Bracket) (ts : Tokens) (s : State) (at : ℕ) → Arrives ts s → allows k s.0 ≡ true → BracketGoes k ts at
 bracket_follows Brace ts s at a e = literal_follows ts s at a e
 bracket_follows Paren ts s at a e = let m = noted_ever at s.0 s.1 [] e in follows_at ts s (m.0, s.1) (at, token.Note []) a m.1
 
-literal_never : (ts : Tokens) (s : State) (at : ℕ) → Arrives ts s → takes_literal s.0 ≡ false → LiteralGoes ts at → ⊥
+pub literal_never : (ts : Tokens) (s : State) (at : ℕ) → Arrives ts s → takes_literal s.0 ≡ false → LiteralGoes ts at → ⊥
 literal_never ts s at a e = stuck_at ts s (at, token.Number (pos 0)) (fault.BadToken at) a (taken_never at s.0 s.1 (node_at at (body.Int (pos 0))) e)
 
-bracket_never : (k : Bracket) (ts : Tokens) (s : State) (at : ℕ) → Arrives ts s → allows k s.0 ≡ false → BracketGoes k ts at → ⊥
+pub bracket_never : (k : Bracket) (ts : Tokens) (s : State) (at : ℕ) → Arrives ts s → allows k s.0 ≡ false → BracketGoes k ts at → ⊥
 bracket_never Brace ts s at a e = literal_never ts s at a e
 bracket_never Paren ts s at a e = stuck_at ts s (at, token.Note []) (fault.BadToken at) a (noted_never at s.0 s.1 [] e)
 
@@ -120,6 +120,8 @@ fault_here ts us s at t (fault.BadToken p) a places e q =
     let no_other : IsNoOther ts at t = record {
       not_wide = λ wide. literal_never ts s at a (q.1 wide);
       not_deep = λ k is. bracket_never k ts s at a (q.2 k is);
+      not_open = q.3;
+      not_unclosed = λ is. literal_never ts s at a (q.4 is);
     } in
     subst (λ (x : ℕ). IsFault (ts ++ (at, t) ∷ us) (fault.BadToken x)) (sym q.0) (ts, us, t, refl, stuck, no_other)
 fault_here ts us s at t (fault.WiderNumber p) a places e q =
@@ -138,7 +140,7 @@ fault_here ts us s at t (fault.Unclosed p) a places e q =
     open_kind : (t ≡ token.OpenComment) ⊎ ((t ≡ token.OpenText) × (takes_literal s.0 ≡ true)) → (t ≡ token.OpenComment) ⊎ ((t ≡ token.OpenText) × LiteralGoes ts at)
     open_kind (inl c) = inl c
     open_kind (inr c) = inr (c.0, literal_follows ts s at a c.1)
-fault_here ts us s at t fault.NoMemory a places e q = tt
+fault_here ts us s at t fault.NoMemory a places e q = absurd q
 
 -- ---- the whole text
 

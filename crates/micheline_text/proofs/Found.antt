@@ -12,8 +12,8 @@ use Rattle.micheline_text.specs.declared.level.Level.TheVariants as level
 use Rattle.micheline_text.specs.declared.level.Open.{Open}
 use Rattle.micheline_text.specs.declared.token.Token.{Token}
 use Rattle.micheline_text.specs.declared.token.Token.TheVariants as token
-use Rattle.micheline_text.specs.Reading.{State, node_at, node_of, begun, with_arg, with_note, taken, named, noted, parted, ended, applied, within, opened, step, run, close_brace, close_paren, finish}
-use Rattle.micheline_text.specs.Grammar.{Tokens, IsLiteral, Bracket, Brace, Paren, begins, ends, IsParted, IsStart, IsApplication, IsArgument, IsNode, IsContent, IsBracketed, IsTextWithin, IsText}
+use Rattle.micheline_text.specs.Reading.{State, node_of, begun, with_arg, with_note, taken, named, noted, parted, ended, applied, within, opened, step, run, close_brace, close_paren, finish}
+use Rattle.micheline_text.specs.Grammar.{Tokens, IsLiteral, Bracket, Brace, Paren, begins, ends, IsParted, IsStart, IsApplication, IsArgument, IsNode, IsContent, IsBracketed, IsTextWithin, IsText, node_at}
 use Rattle.micheline_text.proofs.Spelt.{fed, allows}
 use Rattle.micheline_text.proofs.Held.{IsBegun, word_begins, note_more, arg_more, begun_is, start_more, Holds, bracket_of, Held, held_more, held_fed, after_ok, within_ok, taken_is}
 

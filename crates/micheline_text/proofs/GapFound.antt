@@ -1,7 +1,7 @@
 -- What is skipped is a gap.
 use Rattle.std.proofs.Common.{◌≡◌, ℕ, suc, ◌+◌, ◌⊎◌, inl, inr, Bool, true, false, cond, List, [], ◌∷◌, ◌++◌, length, refl, sym, ap, subst, ◌∙◌, arith, append_assoc}
 use Rattle.std.specs.Prelude.{◌==◌, not, ◌&&◌}
-use Rattle.std.proofs.lemmas.List.{append-nil}
+use Rattle.std.proofs.lemmas.List.{append-nil, length-append}
 use Rattle.std.proofs.lemmas.Bool.{eqb-true}
 use Rattle.std.proofs.lemmas.List.Concat.{flat_map-cons}
 use Rattle.micheline_text.specs.declared.gap.Gap.{Gap}
@@ -64,14 +64,14 @@ abbrev pub Seen : Mode → List ℕ → List ℕ → Type 0
 Seen mode.Between p bytes = p ≡ []
 Seen mode.Line p bytes = (line : List ℕ) × (p ≡ 35 ∷ line) × AllAre (λ b. not (b == 10)) line
 Seen (mode.Slash from) p bytes = (p ≡ 47 ∷ []) × (from ≡ 1 + length bytes)
-Seen (mode.Block from) p bytes = (inner : List ℕ) × (p ≡ 47 ∷ 42 ∷ inner) × ((x : ℕ) → has_no_end (inner ++ x ∷ []) ≡ true)
-Seen (mode.Star from) p bytes = (inner : List ℕ) × (p ≡ 47 ∷ 42 ∷ (inner ++ 42 ∷ [])) × (has_no_end (inner ++ 42 ∷ []) ≡ true)
+Seen (mode.Block from) p bytes = (inner : List ℕ) × (p ≡ 47 ∷ 42 ∷ inner) × ((x : ℕ) → has_no_end (inner ++ x ∷ []) ≡ true) × (from ≡ length p + length bytes)
+Seen (mode.Star from) p bytes = (inner : List ℕ) × (p ≡ 47 ∷ 42 ∷ (inner ++ 42 ∷ [])) × (has_no_end (inner ++ 42 ∷ []) ≡ true) × (from ≡ length p + length bytes)
 
--- after a gap so many bytes are left
+-- after a gap so many bytes are left, which a token or a comment without an end begins
 abbrev pub IsSkipped : List ℕ → Gap → Type 0
 IsSkipped bytes gap.End = IsLast bytes
 IsSkipped bytes (gap.Token left) = (blank rest : List ℕ) × (bytes ≡ blank ++ rest) × IsGap blank × (length rest ≡ left)
-IsSkipped bytes (gap.Comment left) = Unit {0}
+IsSkipped bytes (gap.Comment left) = (blank inner : List ℕ) × (bytes ≡ blank ++ 47 ∷ 42 ∷ inner) × IsGap blank × (has_no_end inner ≡ true) × (length (47 ∷ 42 ∷ inner) ≡ left)
 
 part_first : (part blank : List ℕ) → IsPart part → IsGap blank → IsGap (part ++ blank)
 part_first part blank p g = (part ∷ g.0, ap (λ (x : List ℕ). part ++ x) g.1 ∙ sym (flat_map-cons (λ (x : List ℕ). x) part g.0), (p, g.2))
@@ -85,10 +85,15 @@ skipped_more part bytes gap.End p s =
     grown (inr e) = inr (ap (λ (x : List ℕ). part ++ x) e ∙ sym (append_assoc part s.0 (35 ∷ s.1)))
 skipped_more part bytes (gap.Token left) p s =
     (part ++ s.0, s.1, ap (λ (x : List ℕ). part ++ x) s.2 ∙ sym (append_assoc part s.0 s.1), part_first part s.0 p s.3, s.4)
-skipped_more part bytes (gap.Comment left) p s = tt
+skipped_more part bytes (gap.Comment left) p s =
+    (part ++ s.0, s.1, ap (λ (x : List ℕ). part ++ x) s.2 ∙ sym (append_assoc part s.0 (47 ∷ 42 ∷ s.1)), part_first part s.0 p s.3, s.4, s.5)
 
 no_gap_here : (bytes : List ℕ) → IsSkipped bytes (gap.Token (length bytes))
 no_gap_here bytes = ([], bytes, refl, ([], refl, tt), refl)
+
+-- one byte more was seen, and one is left fewer
+one_on : (p bytes : List ℕ) (b from : ℕ) → from ≡ length p + length (b ∷ bytes) → from ≡ length (p ++ b ∷ []) + length bytes
+one_on p bytes b from e = omega (arith, length-append p (b ∷ []))
 
 all_push : (test : ℕ → Bool) (xs : List ℕ) (b : ℕ) → AllAre test xs → test b ≡ true → AllAre test (xs ++ b ∷ [])
 all_push test [] b h e = (e, tt)
@@ -122,28 +127,28 @@ goes mode.Line p bytes b s =
 goes (mode.Slash from) p bytes b s =
     let behind : p ++ b ∷ [] ≡ 47 ∷ b ∷ [] = ap (λ (x : List ℕ). x ++ b ∷ []) s.0 in
     pick (mode.Slash from) p bytes b (b == 42) (move.On (mode.Block from)) (move.Stop from)
-    (λ e. inl ([], behind ∙ ap (λ (x : ℕ). 47 ∷ x ∷ []) (eqb-true b 42 e), λ x. one_byte x))
+    (λ e. inl ([], behind ∙ ap (λ (x : ℕ). 47 ∷ x ∷ []) (eqb-true b 42 e), (λ x. one_byte x), one_on p bytes b from (omega (arith, ap length s.0, s.1))))
     (λ e. let size : length (47 ∷ b ∷ bytes) ≡ from = omega (arith, s.1) in
     subst (λ (x : List ℕ). IsSkipped (x ++ b ∷ bytes) (gap.Token from)) (sym s.0) (subst (λ (k : ℕ). IsSkipped (47 ∷ b ∷ bytes) (gap.Token k)) size (no_gap_here (47 ∷ b ∷ bytes))))
 goes (mode.Block from) p bytes b s =
     let behind : p ++ b ∷ [] ≡ 47 ∷ 42 ∷ (s.0 ++ b ∷ []) = ap (λ (x : List ℕ). x ++ b ∷ []) s.1 in
     pick (mode.Block from) p bytes b (b == 42) (move.On (mode.Star from)) (move.On (mode.Block from))
-    (λ e. inl (s.0, behind ∙ ap (λ (x : ℕ). 47 ∷ 42 ∷ (s.0 ++ x ∷ [])) (eqb-true b 42 e), s.2 42))
-    (λ e. inl (s.0 ++ b ∷ [], behind, λ x. longer s.0 b x (rw e refl) (s.2 b)))
+    (λ e. inl (s.0, behind ∙ ap (λ (x : ℕ). 47 ∷ 42 ∷ (s.0 ++ x ∷ [])) (eqb-true b 42 e), s.2 42, one_on p bytes b from s.3))
+    (λ e. inl (s.0 ++ b ∷ [], behind, (λ x. longer s.0 b x (rw e refl) (s.2 b)), one_on p bytes b from s.3))
 goes (mode.Star from) p bytes b s =
     let behind : p ++ b ∷ [] ≡ 47 ∷ 42 ∷ ((s.0 ++ 42 ∷ []) ++ b ∷ []) = ap (λ (x : List ℕ). x ++ b ∷ []) s.1 in
     pick (mode.Star from) p bytes b (b == 47) (move.On mode.Between) (cond (b == 42) (move.On (mode.Star from)) (move.On (mode.Block from)))
     (λ e. inr (refl, inr (inr (s.0, behind ∙ ap (λ (x : List ℕ). 47 ∷ 42 ∷ x) (append_assoc s.0 (42 ∷ []) (b ∷ []) ∙ ap (λ (x : ℕ). s.0 ++ 42 ∷ x ∷ []) (eqb-true b 47 e)), shorter s.0 42 s.2))))
     (λ e. pick (mode.Star from) p bytes b (b == 42) (move.On (mode.Star from)) (move.On (mode.Block from))
-    (λ f. inl (s.0 ++ 42 ∷ [], behind ∙ ap (λ (x : ℕ). 47 ∷ 42 ∷ ((s.0 ++ 42 ∷ []) ++ x ∷ [])) (eqb-true b 42 f), longer s.0 42 42 refl s.2))
-    (λ f. inl ((s.0 ++ 42 ∷ []) ++ b ∷ [], behind, λ x. longer (s.0 ++ 42 ∷ []) b x (rw f refl) (longer s.0 42 b e s.2))))
+    (λ f. inl (s.0 ++ 42 ∷ [], behind ∙ ap (λ (x : ℕ). 47 ∷ 42 ∷ ((s.0 ++ 42 ∷ []) ++ x ∷ [])) (eqb-true b 42 f), longer s.0 42 42 refl s.2, one_on p bytes b from s.3))
+    (λ f. inl ((s.0 ++ 42 ∷ []) ++ b ∷ [], behind, (λ x. longer (s.0 ++ 42 ∷ []) b x (rw f refl) (longer s.0 42 b e s.2)), one_on p bytes b from s.3)))
 
 found_end : (m : Mode) (p : List ℕ) → Seen m p [] → IsSkipped p (gap_end m)
 found_end mode.Between p s = (p, [], ([], s, tt), tt, inl refl)
 found_end mode.Line p s = ([], s.0, ([], refl, tt), s.2, inr s.1)
 found_end (mode.Slash from) p s = subst (λ (k : ℕ). IsSkipped p (gap.Token k)) (ap length s.0 ∙ sym s.1) (no_gap_here p)
-found_end (mode.Block from) p s = tt
-found_end (mode.Star from) p s = tt
+found_end (mode.Block from) p s = ([], s.0, s.1, ([], refl, tt), shorter s.0 0 (s.2 0), omega (arith, ap length s.1, s.3))
+found_end (mode.Star from) p s = ([], s.0 ++ 42 ∷ [], s.1, ([], refl, tt), s.2, omega (arith, ap length s.1, s.3))
 
 pub gap_found : (bytes : List ℕ) (m : Mode) (p : List ℕ) → Seen m p bytes → IsSkipped (p ++ bytes) (gap_from m bytes)
 gap_found [] m p s = subst (λ (x : List ℕ). IsSkipped x (gap_end m)) (sym (append-nil p)) (found_end m p s)

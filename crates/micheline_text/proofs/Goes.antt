@@ -8,8 +8,8 @@ use Rattle.micheline_text.specs.declared.level.Level.TheVariants as level
 use Rattle.micheline_text.specs.declared.level.Open.{Open}
 use Rattle.micheline_text.specs.declared.token.Token.{Token}
 use Rattle.micheline_text.specs.declared.token.Token.TheVariants as token
-use Rattle.micheline_text.specs.Reading.{State, node_at, node_of, begun, taken, takes_literal, within, step, run}
-use Rattle.micheline_text.specs.Grammar.{Tokens, Bracket, Brace, Paren}
+use Rattle.micheline_text.specs.Reading.{State, node_of, begun, taken, takes_literal, within, step, run}
+use Rattle.micheline_text.specs.Grammar.{Tokens, Bracket, Brace, Paren, node_at}
 use Rattle.micheline_text.specs.Faults.{GoesOn}
 use Rattle.micheline_text.proofs.Spelt.{fed, allows, allows_literal, literal_taken, text_is_read}
 use Rattle.micheline_text.proofs.Held.{bracket_of, Held}

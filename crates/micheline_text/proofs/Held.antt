@@ -9,8 +9,8 @@ use Rattle.micheline_text.specs.declared.level.Level.{Level}
 use Rattle.micheline_text.specs.declared.level.Level.TheVariants as level
 use Rattle.micheline_text.specs.declared.level.Open.{Open}
 use Rattle.micheline_text.specs.declared.token.Token.TheVariants as token
-use Rattle.micheline_text.specs.Reading.{State, node_at, node_of, begun, with_arg, with_note, taken, takes_literal, after, within}
-use Rattle.micheline_text.specs.Grammar.{Tokens, IsLiteral, Bracket, Brace, Paren, begins, IsRest, IsParted, IsStart, Piece, Note, Arg, notes_of, args_of, ArePieces, IsApplication, IsArgument, IsNode, IsBracketed}
+use Rattle.micheline_text.specs.Reading.{State, node_of, begun, with_arg, with_note, taken, takes_literal, after, within}
+use Rattle.micheline_text.specs.Grammar.{Tokens, IsLiteral, Bracket, Brace, Paren, begins, IsRest, IsParted, IsStart, Piece, Note, Arg, notes_of, args_of, ArePieces, IsApplication, IsArgument, IsNode, IsBracketed, node_at}
 use Rattle.micheline_text.proofs.Spelt.{fed, allows}
 
 -- ---- one more at the end

@@ -1,5 +1,5 @@
 -- Bytes that are laid out as tokens are read as these.
-use Rattle.std.proofs.Common.{◌≡◌, ℕ, ◌⊎◌, inl, inr, Bool, true, false, List, [], ◌∷◌, ◌++◌, length, refl, sym, ap, ◌∙◌, arith, append_assoc}
+use Rattle.std.proofs.Common.{◌≡◌, ℕ, ◌≤◌, ◌⊎◌, inl, inr, Bool, true, false, List, [], ◌∷◌, ◌++◌, length, refl, sym, ap, ◌∙◌, arith, append_assoc}
 use Rattle.std.specs.Prelude.{◌==◌, not, ◌&&◌}
 use Rattle.std.specs.List.{prefix_len, flat_map, AllByRecursion}
 use Rattle.std.proofs.lemmas.List.{append-nil}
@@ -53,7 +53,29 @@ comment_part from (b ∷ inner) rest e =
     let p = both_true (not ((b == 42) && begins_slash inner)) (has_no_end inner) e in
     comment_byte from b inner rest (b == 42) refl p.0 (comment_part from inner rest p.1)
 
-part_passes : (part rest : List ℕ) → IsPart part → gap_from mode.Between (part ++ rest) ≡ gap_from mode.Between rest
+-- a part takes a byte at least
+pub part_some : (part : List ℕ) → IsPart part → 1 ≤ length part
+part_some part (inl p) = omega (arith, ap length p.1)
+part_some part (inr (inl p)) = omega (arith, ap length p.1)
+part_some part (inr (inr p)) = omega (arith, ap length p.1)
+
+-- a comment without an end, and behind a `*` in it
+abbrev StaysOpen : ℕ → List ℕ → Type 0
+StaysOpen from inner = (gap_from (mode.Block from) inner ≡ gap.Comment from) × (begins_slash inner ≡ false → gap_from (mode.Star from) inner ≡ gap.Comment from)
+
+open_byte : (from b : ℕ) (inner : List ℕ) (star : Bool) → (b == 42) ≡ star → not ((b == 42) && begins_slash inner) ≡ true → StaysOpen from inner → StaysOpen from (b ∷ inner)
+open_byte from b inner true is e h =
+    let star = h.1 (no_slash (b == 42) (begins_slash inner) is e) in
+    (rw is star, λ f. rw (f, is) star)
+open_byte from b inner false is e h = (rw is h.0, λ f. rw (f, is) h.0)
+
+pub stays_open : (from : ℕ) (inner : List ℕ) → has_no_end inner ≡ true → StaysOpen from inner
+stays_open from [] e = (refl, λ f. refl)
+stays_open from (b ∷ inner) e =
+    let p = both_true (not ((b == 42) && begins_slash inner)) (has_no_end inner) e in
+    open_byte from b inner (b == 42) refl p.0 (stays_open from inner p.1)
+
+pub part_passes : (part rest : List ℕ) → IsPart part → gap_from mode.Between (part ++ rest) ≡ gap_from mode.Between rest
 part_passes part rest (inl p) = ap (λ (x : List ℕ). gap_from mode.Between (x ++ rest)) p.1 ∙ blank_part p.0 rest p.2
 part_passes part rest (inr (inl p)) =
     ap (λ (x : List ℕ). gap_from mode.Between (x ++ rest)) p.1 ∙ ap (gap_from mode.Line) (append_assoc p.0 (10 ∷ []) rest) ∙ line_part p.0 rest p.2

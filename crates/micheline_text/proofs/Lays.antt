@@ -14,11 +14,11 @@ use Rattle.value_core.specs.Leaves.{IsNumber, is_text, is_blob}
 use Rattle.micheline_text.specs.declared.token.Token.{Token}
 use Rattle.micheline_text.specs.declared.token.Token.TheVariants as token
 use Rattle.micheline_text.specs.Kinds.{is_digit, is_word_byte, is_note_byte, is_hex}
-use Rattle.micheline_text.specs.Lexing.{decimal_value, signed, unhex, hex_value}
+use Rattle.micheline_text.specs.Literals.{decimal_value, signed, unhex, hex_value}
 use Rattle.micheline_text.specs.Printed.{escaped, hex_digit, hex_pair}
 use Rattle.micheline_text.specs.Layout.{AllAre, Stops, IsGap, IsSpelled, IsLaidOut}
 use Rattle.micheline_text.specs.Grammar.{Tokens}
-use Rattle.micheline_text.specs.Again.{IsName, IsNote}
+use Rattle.micheline_text.specs.Fits.{IsName, IsNote}
 
 -- what follows a printed node: nothing, a blank, or a parenthesis that closes
 abbrev pub Follows : List ℕ → Type 0
@@ -124,14 +124,14 @@ lays_natural at n h =
     let d = decimal_is n h in
     let small : decimal_value (decimal n) < 2 ^ 127 = subst (λ (k : ℕ). k < 2 ^ 127) (sym d.value) h in
     lays_one at (decimal n) (token.Number (pos n))
-    (λ rest f. (false, decimal n, refl, d.some, d.all, small, ap pos (sym d.value), follows_stops is_digit rest refl refl f, λ e. follows_stops (λ b. b == 120) rest refl refl f))
+    (λ rest f. (false, decimal n, (refl, d.some, d.all, follows_stops is_digit rest refl refl f, λ e. follows_stops (λ b. b == 120) rest refl refl f), small, ap pos (sym d.value)))
 
 pub lays_below : (at n : ℕ) → suc n < 2 ^ 127 → Lays at (45 ∷ decimal (suc n)) ((at, token.Number (negsuc n)) ∷ [])
 lays_below at n h =
     let d = decimal_is (suc n) h in
     let small : decimal_value (decimal (suc n)) < 2 ^ 127 = subst (λ (k : ℕ). k < 2 ^ 127) (sym d.value) h in
     lays_one at (45 ∷ decimal (suc n)) (token.Number (negsuc n))
-    (λ rest f. (true, decimal (suc n), refl, d.some, d.all, small, ap (signed true) (sym d.value), follows_stops is_digit rest refl refl f, λ e. follows_stops (λ b. b == 120) rest refl refl f))
+    (λ rest f. (true, decimal (suc n), (refl, d.some, d.all, follows_stops is_digit rest refl refl f, λ e. follows_stops (λ b. b == 120) rest refl refl f), small, ap (signed true) (sym d.value)))
 
 pub lays_number : (at : ℕ) (z : ℤ) → IsNumber z → Lays at (signed_decimal z) ((at, token.Number z) ∷ [])
 lays_number at (pos n) h = lays_natural at n (omega (arith, ints, h.1))
@@ -147,7 +147,7 @@ pub record IsHex (t digits : List ℕ) : Type 0 where
   pub even : length digits % 2 ≡ 0
   pub value : unhex None digits ≡ t
 
-pairs_are : (t : List ℕ) → AllAre (λ x. nat_lt x 256) t → IsHex t (flat_map hex_pair t)
+pub pairs_are : (t : List ℕ) → AllAre (λ x. nat_lt x 256) t → IsHex t (flat_map hex_pair t)
 pairs_are [] h = record { all = tt; even = refl; value = refl }
 pairs_are (b ∷ t) h =
     let small : b < 256 = ltb-true b 256 h.0 in

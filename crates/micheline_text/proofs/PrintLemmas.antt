@@ -1,39 +1,31 @@
 -- The printed text at each kind of node.
-use Rattle.std.proofs.Common.{◌≡◌, ℕ, ℤ, List, [], ◌∷◌, ◌++◌, length, map, Bool, true, false, refl, sym, ap, ◌∙◌, append_assoc, arith, take, get_or, ◌+◌, ◌<◌}
-use Rattle.std.specs.Prelude.{not, ◌&&◌, ◌==◌}
-use Rattle.std.specs.List.{flat_map}
+use Rattle.std.proofs.Common.{◌≡◌, ℕ, suc, ℤ, List, [], ◌∷◌, ◌++◌, length, map, Bool, true, false, refl, sym, ap, ◌∙◌, append_assoc, arith, take, get_or, ◌+◌, ◌<◌}
+use Rattle.std.specs.Prelude.{not, ◌&&◌, ◌==◌, nat_lt}
+use Rattle.std.specs.List.{flat_map, list_all}
 use Rattle.std.specs.Fmt.{signed_decimal}
 use Rattle.std.proofs.lemmas.List.{append-nil, length-map, map-append, take_more, length-take-le}
 use Rattle.std.proofs.lemmas.Bool.Decides.{nat_tests}
+use Rattle.std.proofs.lemmas.Bool.{lt-ltb}
+use Rattle.std.proofs.lemmas.List.Folds.{list_all-append, list_all-map}
+use Rattle.value_core.specs.Leaves.{is_blob, is_text}
 use Rattle.std.proofs.lemmas.List.Concat.{flat_map-append}
 use Rattle.micheline_text.specs.declared.node.Node.{Node}
-use Rattle.micheline_text.specs.declared.node.Body.{Body}
 use Rattle.micheline_text.specs.declared.node.Body.TheVariants as variant
-use Rattle.micheline_text.specs.declared.node.Body.TheVariants.{rolls-Int, rolls-Text, rolls-Bytes, rolls-Prim, rolls-Seq}
-use Rattle.micheline_text.specs.declared.node.Body.TheOpen as one
-use Rattle.micheline_text.specs.declared.node.Body.TheOpen.{Body-F, Node-F}
-use Rattle.micheline_text.specs.declared.node.Body.TheViews.{roll-Body}
-use Rattle.micheline_text.specs.declared.node.Body.TheFolds.{fold-roll-Body, map-Body, fold-roll-Node}
+use Rattle.micheline_text.specs.Again.{is_number, lawful_level, is_lawful, is_lawful_body}
 use Rattle.micheline_text.specs.Printed.{escaped, hex_pair, Print, argument, annotation, next_item, item, items, braces, is_empty, print_level, print_body, print}
-
-rolled : (x : Body-F Body Node) → print_body (roll-Body x) ≡ print_level (map-Body Body Node Print Print print_body print x)
-rolled = fold-roll-Body Print Print print_level (λ n. n.body)
-
-one_node : Node → Node-F Body Node
-one_node n = record { at = n.at; body = n.body }
+use Rattle.micheline_text.proofs.NodeLevels.{at_node, at_int, at_text, at_bytes, at_prim, at_seq}
 
 pub print_is : (n : Node) → print n ≡ print_body n.body
-unfolding one_node
-print_is n = fold-roll-Node Print Print print_level (λ m. m.body) (one_node n)
+print_is n = at_node Print print_level n
 
 pub print_int : (z : ℤ) → print_body (variant.Int z) ≡ (signed_decimal z, false)
-print_int z = ap print_body (sym (rolls-Int z)) ∙ rolled (one.Int z)
+print_int z = at_int Print print_level z
 
 pub print_text : (t : List ℕ) → print_body (variant.Text t) ≡ (34 ∷ (flat_map escaped t ++ 34 ∷ []), false)
-print_text t = ap print_body (sym (rolls-Text t)) ∙ rolled (one.Text t)
+print_text t = at_text Print print_level t
 
 pub print_bytes : (b : List ℕ) → print_body (variant.Bytes b) ≡ (48 ∷ 120 ∷ flat_map hex_pair b, false)
-print_bytes b = ap print_body (sym (rolls-Bytes b)) ∙ rolled (one.Bytes b)
+print_bytes b = at_bytes Print print_level b
 
 is_empty-map : (ns : List Node) → is_empty (map print ns) ≡ is_empty ns
 is_empty-map [] = refl
@@ -41,11 +33,11 @@ is_empty-map (n ∷ ns) = refl
 
 pub print_prim : (name : List ℕ) (notes : List (List ℕ)) (args : List Node) → print_body (variant.Prim name notes args) ≡
     (name ++ (flat_map annotation notes ++ flat_map argument (map print args)), not (is_empty notes && is_empty args))
-print_prim name notes args = ap print_body (sym (rolls-Prim name notes args)) ∙ rolled (one.Prim name notes args)
+print_prim name notes args = at_prim Print print_level name notes args
     ∙ ap (λ (b : Bool). (name ++ (flat_map annotation notes ++ flat_map argument (map print args)), not (is_empty notes && b))) (is_empty-map args)
 
 pub print_seq : (ns : List Node) → print_body (variant.Seq ns) ≡ (braces (map print ns), false)
-print_seq ns = ap print_body (sym (rolls-Seq ns)) ∙ rolled (one.Seq ns)
+print_seq ns = at_seq Print print_level ns
 
 items_more : (ps : List Print) (p : Print) → items (ps ++ p ∷ []) ≡ items ps ++ item (length ps == 0) p
 items_more [] p = ap (λ (x : List ℕ). 32 ∷ x) (append-nil p.0)
@@ -67,4 +59,38 @@ pub is_empty_is : {A : Type 0} (xs : List A) → is_empty xs ≡ (length xs == 0
 is_empty_is [] = refl
 is_empty_is (x ∷ xs) = sym (grind (arith, nat_tests))
 
+-- ---- which nodes are lawful
+
+pub is_lawful-node : (n : Node) → is_lawful n ≡ is_lawful_body n.body
+is_lawful-node n = at_node Bool lawful_level n
+
+pub is_lawful-int : (z : ℤ) → is_lawful_body (variant.Int z) ≡ is_number z
+is_lawful-int z = at_int Bool lawful_level z
+
+pub is_lawful-text : (t : List ℕ) → is_lawful_body (variant.Text t) ≡ is_text t
+is_lawful-text t = at_text Bool lawful_level t
+
+pub is_lawful-bytes : (b : List ℕ) → is_lawful_body (variant.Bytes b) ≡ (is_blob b && list_all (λ x. nat_lt x 256) b)
+is_lawful-bytes b = at_bytes Bool lawful_level b
+
+pub is_lawful-prim : (name : List ℕ) (notes : List (List ℕ)) (args : List Node) → is_lawful_body (variant.Prim name notes args) ≡ list_all is_lawful args
+is_lawful-prim name notes args = at_prim Bool lawful_level name notes args ∙ list_all-map (λ (v : Bool). v) is_lawful args
+
+pub is_lawful-seq : (ns : List Node) → is_lawful_body (variant.Seq ns) ≡ list_all is_lawful ns
+is_lawful-seq ns = at_seq Bool lawful_level ns ∙ list_all-map (λ (v : Bool). v) is_lawful ns
+
+-- one more node is lawful
+pub lawful_step : (ns : List Node) (i : ℕ) (n : Node) → i < length ns → get_or ns i n ≡ n → list_all is_lawful (take i ns) ≡ true → is_lawful_body n.body ≡ true → list_all is_lawful (take (i + 1) ns) ≡ true
+lawful_step ns i n within is before here =
+    let more : take (i + 1) ns ≡ take i ns ++ n ∷ [] = take_more ns i n within ∙ ap (λ (x : Node). take i ns ++ x ∷ []) is in
+    let this : is_lawful n ≡ true = is_lawful-node n ∙ here in
+    ap (list_all is_lawful) more ∙ list_all-append is_lawful (take i ns) (n ∷ []) ∙ rw (before, this) refl
+
+-- bytes of the program are below 256
+pub all_small : (bytes : List ℕ) → ((i : ℕ) → get_or bytes i 0 < 256) → list_all (λ b. nat_lt b 256) bytes ≡ true
+all_small [] small = refl
+all_small (b ∷ bytes) small = rw (lt-ltb b 256 (small 0)) (all_small bytes (λ i. small (suc i)))
+
 pub ruleset printings = (print_is, print_int, print_text, print_bytes, print_prim, print_seq, append_assoc)
+
+pub ruleset lawful = (is_lawful-node, is_lawful-int, is_lawful-text, is_lawful-bytes, is_lawful-prim, is_lawful-seq)

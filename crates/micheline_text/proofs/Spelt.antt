@@ -11,8 +11,8 @@ use Rattle.micheline_text.specs.declared.level.Level.TheVariants as level
 use Rattle.micheline_text.specs.declared.level.Open.{Open}
 use Rattle.micheline_text.specs.declared.token.Token.{Token}
 use Rattle.micheline_text.specs.declared.token.Token.TheVariants as token
-use Rattle.micheline_text.specs.Reading.{node_at, node_of, begun, with_arg, with_note, taken, parted, ended, takes_literal, takes_argument, within, step, run}
-use Rattle.micheline_text.specs.Grammar.{Tokens, IsLiteral, Bracket, Brace, Paren, begins, ends, IsRest, IsParted, Piece, Note, Arg, notes_of, args_of, ArePieces, IsArgument, IsNode, IsContent, IsBracketed, IsTextWithin, IsText}
+use Rattle.micheline_text.specs.Reading.{node_of, begun, with_arg, with_note, taken, parted, ended, takes_literal, takes_argument, within, step, run}
+use Rattle.micheline_text.specs.Grammar.{Tokens, IsLiteral, Bracket, Brace, Paren, begins, ends, IsRest, IsParted, Piece, Note, Arg, notes_of, args_of, ArePieces, IsArgument, IsNode, IsContent, IsBracketed, IsTextWithin, IsText, node_at}
 
 -- the level after a node that may stand there
 abbrev pub fed : Level → Node → Level

@@ -1,10 +1,9 @@
--- Each token that is read is spelled so.
-use Rattle.std.proofs.Common.{◌≡◌, ◌≢◌, ℕ, ◌+◌, ◌<◌, ◌%◌, ◌^◌, Bool, true, false, cond, List, [], ◌∷◌, ◌++◌, length, take, drop, None, refl, sym, ap, subst, ◌∙◌, arith, append_assoc}
+-- What is read in front is spelled so, or begins nothing.
+use Rattle.std.proofs.Common.{◌≡◌, ◌≢◌, ℕ, ◌+◌, ◌%◌, ◌^◌, ◌⊎◌, inl, inr, Bool, true, false, cond, List, [], ◌∷◌, ◌++◌, length, take, drop, None, refl, sym, ap, subst, ◌∙◌, arith, append_assoc}
 use Rattle.std.specs.Prelude.{◌==◌, ◌&&◌, ◌||◌, nat_le, nat_lt}
 use Rattle.std.specs.List.{prefix_len, flat_map}
-use Rattle.std.proofs.lemmas.List.{length-append, take_at}
-use Rattle.std.proofs.lemmas.Bool.Decides.{nat_tests}
-use Rattle.std.proofs.lemmas.Bool.{le-leb, eqb-true, ltb-true, eqb-false}
+use Rattle.std.proofs.lemmas.List.{append-nil, length-append, take_at}
+use Rattle.std.proofs.lemmas.Bool.{le-leb, eqb-true, ltb-true, ltb-false, eqb-false}
 use Rattle.std.proofs.lemmas.List.Concat.{flat_map-cons}
 use Rattle.value_core.specs.Leaves.{is_text, is_blob}
 use Rattle.micheline_text.specs.declared.text.Ending.{Ending}
@@ -12,21 +11,16 @@ use Rattle.micheline_text.specs.declared.text.Ending.TheVariants as ending
 use Rattle.micheline_text.specs.declared.token.Token.{Token}
 use Rattle.micheline_text.specs.declared.token.Token.TheVariants as token
 use Rattle.micheline_text.specs.Kinds.{is_digit, is_letter, is_word_byte, is_note_byte, is_hex, begins_note, is_plain}
-use Rattle.micheline_text.specs.Lexing.{token_at, word_at, note_at, minus_at, digits_at, begins_hex, number_token, numeral, signed, decimal_value, bytes_token, unhex, quoted, Quoted, said, one_more, text_at, text_by, mark}
-use Rattle.micheline_text.specs.Layout.{AllAre, Stops, IsSpelled, sign}
+use Rattle.micheline_text.specs.Lexing.{front_token, word_at, note_at, minus_at, digits_at, begins_hex, number_token, bytes_token, quoted, Quoted, said, one_more, text_at, text_by, mark}
+use Rattle.micheline_text.specs.Literals.{signed, decimal_value, unhex}
+use Rattle.micheline_text.specs.Layout.{AllAre, Stops, IsNumeral, IsSpelled, sign}
+use Rattle.micheline_text.specs.Cuts.{IsUnfit}
 use Rattle.micheline_text.specs.Printed.{escaped}
+use Rattle.micheline_text.proofs.OpenTexts.{slash, plain_spelled, mark_spelled, open_found}
 
--- what has a spelling
-abbrev pub IsProper : Token → Type 0
-IsProper token.Wide = ⊥
-IsProper token.OpenText = ⊥
-IsProper token.OpenComment = ⊥
-IsProper token.Faulty = ⊥
-IsProper t = Unit {0}
-
--- the bytes begin with the token, if it is one
+-- the bytes begin with the token, or with none
 abbrev pub Begins : List ℕ → Token × ℕ → Type 0
-Begins bytes x = IsProper x.0 → (s rest : List ℕ) × (bytes ≡ s ++ rest) × (length s ≡ x.1) × IsSpelled x.0 s rest
+Begins bytes x = (x.0 ≡ token.Faulty) ⊎ ((s rest : List ℕ) × (bytes ≡ s ++ rest) × (length s ≡ x.1) × (IsSpelled x.0 s rest ⊎ IsUnfit x.0 s rest))
 
 pick : (bytes : List ℕ) (v : Bool) (x y : Token × ℕ) → (v ≡ true → Begins bytes x) → (v ≡ false → Begins bytes y) → Begins bytes (cond v x y)
 pick bytes true x y f g = f refl
@@ -72,19 +66,19 @@ mark_begins b rest =
     (one 125 token.CloseBrace (λ s. s) (cond (b == 40) token.OpenParen (cond (b == 41) token.CloseParen (cond (b == 59) token.Semicolon token.Faulty)))
     (one 40 token.OpenParen (λ s. s) (cond (b == 41) token.CloseParen (cond (b == 59) token.Semicolon token.Faulty))
     (one 41 token.CloseParen (λ s. s) (cond (b == 59) token.Semicolon token.Faulty)
-    (one 59 token.Semicolon (λ s. s) token.Faulty (λ p. absurd p)))))
+    (one 59 token.Semicolon (λ s. s) token.Faulty (inl refl)))))
   where
     one : (k : ℕ) (t : Token) → (b ∷ [] ≡ k ∷ [] → IsSpelled t (b ∷ []) rest) → (u : Token) → Begins (b ∷ rest) (u, 1) → Begins (b ∷ rest) (cond (b == k) t u, 1)
     one k t spelled u other = at (b == k) refl
       where
         at : (v : Bool) → (b == k) ≡ v → Begins (b ∷ rest) (cond v t u, 1)
-        at true e = λ p. (b ∷ [], rest, refl, refl, spelled (ap (λ (x : ℕ). x ∷ []) (eqb-true b k e)))
+        at true e = inr (b ∷ [], rest, refl, refl, inl (spelled (ap (λ (x : ℕ). x ∷ []) (eqb-true b k e))))
         at false e = other
 
 -- ---- words and annotations
 
 word_begins : (b : ℕ) (rest : List ℕ) → is_letter b ≡ true → Begins (b ∷ rest) (word_at (b ∷ rest))
-word_begins b rest first p =
+word_begins b rest first =
     let r = run_found is_word_byte rest in
     let here : is_word_byte b ≡ true = rw first refl in
     let whole : IsRun is_word_byte (b ∷ rest) = record {
@@ -95,42 +89,37 @@ word_begins b rest first p =
       all = (here, r.all);
       stops = r.stops;
     } in
-    (b ∷ r.front, r.rest, whole.parts, sym whole.size, (b, r.front, refl, taken_is is_word_byte (b ∷ rest) whole, first, r.all, r.stops))
+    inr (b ∷ r.front, r.rest, whole.parts, sym whole.size, inl (b, r.front, refl, taken_is is_word_byte (b ∷ rest) whole, first, r.all, r.stops))
 
 note_begins : (b : ℕ) (rest : List ℕ) → begins_note b ≡ true → Begins (b ∷ rest) (note_at (b ∷ rest))
-note_begins b rest first p =
+note_begins b rest first =
     let r = run_found is_note_byte rest in
     let size : length (b ∷ r.front) ≡ 1 + prefix_len is_note_byte rest = omega (arith, r.size) in
     let parts : b ∷ rest ≡ (b ∷ r.front) ++ r.rest = ap (λ (l : List ℕ). b ∷ l) r.parts in
     let said : take (1 + prefix_len is_note_byte rest) (b ∷ rest) ≡ b ∷ r.front = ap (λ (l : List ℕ). take (1 + prefix_len is_note_byte rest) l) parts ∙ take_at (b ∷ r.front) r.rest (1 + prefix_len is_note_byte rest) size in
-    (b ∷ r.front, r.rest, parts, size, (b, r.front, refl, said, first, r.all, r.stops))
+    inr (b ∷ r.front, r.rest, parts, size, inl (b, r.front, refl, said, first, r.all, r.stops))
 
 -- ---- numbers
 
-number_is : (below : Bool) (n : ℕ) → IsProper (numeral below n) → (n < 2 ^ 127) × (numeral below n ≡ token.Number (signed below n))
-number_is below n p = at (nat_lt n (2 ^ 127)) refl p
-  where
-    at : (v : Bool) → nat_lt n (2 ^ 127) ≡ v → IsProper (cond v (token.Number (signed below n)) token.Wide) → (n < 2 ^ 127) × (numeral below n ≡ token.Number (signed below n))
-    at true e q = (ltb-true n (2 ^ 127) e, ap (λ (v : Bool). cond v (token.Number (signed below n)) token.Wide) e)
-    at false e q = absurd q
+-- a numeral is a number or too wide
+number_begins : (below : Bool) (digits s rest bytes : List ℕ) (k : ℕ) → bytes ≡ s ++ rest → length s ≡ k → IsNumeral below digits s rest → Begins bytes (number_token below digits, k)
+number_begins below digits s rest bytes k parts size numeral_is =
+    let n = decimal_value digits in
+    pick_token bytes (nat_lt n (2 ^ 127)) (token.Number (signed below n)) token.Wide k
+    (λ e. inr (s, rest, parts, size, inl (below, digits, numeral_is, ltb-true n (2 ^ 127) e, refl)))
+    (λ e. inr (s, rest, parts, size, inr (below, digits, numeral_is, ltb-false n (2 ^ 127) e)))
 
 -- a numeral behind its sign
 numeral_begins : (below : Bool) (digits rest bytes : List ℕ) (k : ℕ) → bytes ≡ (sign below ++ digits) ++ rest → length (sign below ++ digits) ≡ k → digits ≢ [] → AllAre is_digit digits → Stops is_digit rest →
     (sign below ++ digits ≡ 48 ∷ [] → Stops (λ b. b == 120) rest) → Begins bytes (number_token below digits, k)
-numeral_begins below digits rest bytes k parts size some all stops hex p =
-    let n = number_is below (decimal_value digits) p in (
-      sign below ++ digits,
-      rest,
-      parts,
-      size,
-      subst (λ (t : Token). IsSpelled t (sign below ++ digits) rest) (sym n.1) (below, digits, refl, some, all, n.0, refl, stops, hex),
-    )
+numeral_begins below digits rest bytes k parts size some all stops hex =
+    number_begins below digits (sign below ++ digits) rest bytes k parts size (refl, some, all, stops, hex)
 
 minus_begins : (rest : List ℕ) → Begins (45 ∷ rest) (minus_at (45 ∷ rest))
 minus_begins rest =
     let r = run_found is_digit rest in
     let n = prefix_len is_digit rest in
-    pick (45 ∷ rest) (n == 0) (token.Faulty, 1) (number_token true (take n rest), 1 + n) (λ e p. absurd p)
+    pick (45 ∷ rest) (n == 0) (token.Faulty, 1) (number_token true (take n rest), 1 + n) (λ e. inl refl)
     (λ e. let some : r.front ≢ [] = λ none. eqb-false n 0 e (r.size ∙ ap length none) in
     let size : length (45 ∷ r.front) ≡ 1 + n = omega (arith, r.size) in
     subst (λ (d : List ℕ). Begins (45 ∷ rest) (number_token true d, 1 + n)) (sym (taken_is is_digit rest r))
@@ -159,9 +148,9 @@ bytes_begins rest =
     let size : length (48 ∷ 120 ∷ r.front) ≡ 2 + prefix_len is_hex rest = omega (arith, r.size) in
     subst (λ (d : List ℕ). Begins (48 ∷ 120 ∷ rest) (bytes_token d, 2 + prefix_len is_hex rest)) (sym (taken_is is_hex rest r))
     (pick_token (48 ∷ 120 ∷ rest) ((length r.front % 2 == 0) && is_blob (unhex None r.front)) (token.Bytes (unhex None r.front)) token.Faulty (2 + prefix_len is_hex rest)
-    (λ e p. let q = and_true (length r.front % 2 == 0) (is_blob (unhex None r.front)) e in
-    (48 ∷ 120 ∷ r.front, r.rest, ap (λ (l : List ℕ). 48 ∷ 120 ∷ l) r.parts, size, (r.front, refl, r.all, eqb-true (length r.front % 2) 0 q.0, refl, q.1, r.stops)))
-    (λ e p. absurd p))
+    (λ e. let q = and_true (length r.front % 2 == 0) (is_blob (unhex None r.front)) e in
+    inr (48 ∷ 120 ∷ r.front, r.rest, ap (λ (l : List ℕ). 48 ∷ 120 ∷ l) r.parts, size, inl (r.front, refl, r.all, eqb-true (length r.front % 2) 0 q.0, refl, q.1, r.stops)))
+    (λ e. inl refl))
 
 digits_begins : (d : ℕ) (rest : List ℕ) → is_digit d ≡ true → Begins (d ∷ rest) (digits_at (d ∷ rest))
 digits_begins d rest first =
@@ -189,21 +178,10 @@ digits_begins d rest first =
 
 -- ---- strings
 
--- what stands before the bytes: the `\` that was read
-abbrev pub slash : Bool → List ℕ
-slash false = []
-slash true = 92 ∷ []
-
 -- a string that ends is spelled so
 abbrev pub IsQuoted : Bool → List ℕ → Type 0
 IsQuoted e bytes = (quoted e bytes).2 ≡ ending.Closed → (rest : List ℕ) × (slash e ++ bytes ≡ flat_map escaped (quoted e bytes).0 ++ 34 ∷ rest) ×
     (length (slash e) + (quoted e bytes).1 ≡ length (flat_map escaped (quoted e bytes).0) + 1)
-
-plain_spelled : (b : ℕ) → (b == 34) ≡ false → (b == 92) ≡ false → is_plain b ≡ true → escaped b ≡ b ∷ []
-plain_spelled b q s p = let n : (b == 10) ≡ false = grind (arith, nat_tests) in rw (n, q, s) refl
-
-mark_spelled : (b : ℕ) → ((b == 34) || (b == 92)) ≡ true → escaped b ≡ 92 ∷ b ∷ []
-mark_spelled b e = let n : (b == 10) ≡ false = grind (arith, nat_tests) in rw (n, e) refl
 
 -- a byte that is said is spelled before the rest
 said_more : (e : Bool) (b c : ℕ) (bytes : List ℕ) → slash e ++ b ∷ [] ≡ escaped c → quoted e (b ∷ bytes) ≡ said c (quoted false bytes) → IsQuoted false bytes → IsQuoted e (b ∷ bytes)
@@ -222,7 +200,8 @@ said_more e b c bytes spelled is h = λ closed.
     )
 
 quoted_found : (bytes : List ℕ) (e : Bool) → IsQuoted e bytes
-quoted_found [] e = λ closed. absurd cc
+quoted_found [] false = λ closed. absurd cc
+quoted_found [] true = λ closed. absurd cc
 quoted_found (b ∷ bytes) false = at (b == 34) refl (b == 92) refl (is_plain b) refl (quoted_found bytes false) (quoted_found bytes true)
   where
     at : (q : Bool) → (b == 34) ≡ q → (s : Bool) → (b == 92) ≡ s → (p : Bool) → is_plain b ≡ p → IsQuoted false bytes → IsQuoted true bytes → IsQuoted false (b ∷ bytes)
@@ -261,17 +240,21 @@ text_begins rest = at (quoted false rest).2 refl
     at : (v : Ending) → (quoted false rest).2 ≡ v → Begins (34 ∷ rest) (text_by v (quoted false rest).0, 1 + (quoted false rest).1)
     at ending.Closed e =
         pick_token (34 ∷ rest) (is_text (quoted false rest).0) (token.Text (quoted false rest).0) token.Faulty (1 + (quoted false rest).1)
-        (λ ok p. let r = quoted_found rest false e in
+        (λ ok. let r = quoted_found rest false e in
         let body : List ℕ = flat_map escaped (quoted false rest).0 in
         let size : length (34 ∷ (body ++ 34 ∷ [])) ≡ 1 + (quoted false rest).1 = omega (arith, r.2, length-append body (34 ∷ [])) in
-        (34 ∷ (body ++ 34 ∷ []), r.0, ap (λ (x : List ℕ). 34 ∷ x) (r.1 ∙ sym (append_assoc body (34 ∷ []) r.0)), size, (refl, ok)))
-        (λ ok p. absurd p)
-    at ending.Open e = pick_token (34 ∷ rest) (is_text (quoted false rest).0) token.OpenText token.Faulty (1 + (quoted false rest).1) (λ ok p. absurd p) (λ ok p. absurd p)
-    at ending.Wrong e = λ p. absurd p
+        inr (34 ∷ (body ++ 34 ∷ []), r.0, ap (λ (x : List ℕ). 34 ∷ x) (r.1 ∙ sym (append_assoc body (34 ∷ []) r.0)), size, inl (refl, ok)))
+        (λ ok. inl refl)
+    at ending.Open e =
+        pick_token (34 ∷ rest) (is_text (quoted false rest).0) token.OpenText token.Faulty (1 + (quoted false rest).1)
+        (λ ok. let r = open_found rest false e in
+        inr (34 ∷ rest, [], sym (append-nil (34 ∷ rest)), omega (arith, r.3), inr (refl, (rest, r.0, (quoted false rest).0, refl, r.1, r.2, ok))))
+        (λ ok. inl refl)
+    at ending.Wrong e = inl refl
 
 -- ---- any token
 
-pub token_found : (b : ℕ) (rest : List ℕ) → Begins (b ∷ rest) (token_at (b ∷ rest))
+pub token_found : (b : ℕ) (rest : List ℕ) → Begins (b ∷ rest) (front_token (b ∷ rest))
 token_found b rest =
     let bytes : List ℕ = b ∷ rest in
     let last : Token × ℕ = (mark b, 1) in

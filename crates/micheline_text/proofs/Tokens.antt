@@ -1,10 +1,10 @@
 -- Each spelled token is the one that is read.
-use Rattle.std.proofs.Common.{◌≡◌, ◌≢◌, ℕ, ℤ, ◌+◌, ◌-◌, ◌<◌, ◌%◌, ◌^◌, pos, Bool, true, false, cond, List, [], ◌∷◌, ◌++◌, length, take, drop, None, refl, sym, ap, subst, ◌∙◌, arith, append_assoc}
+use Rattle.std.proofs.Common.{◌≡◌, ◌≢◌, ℕ, ℤ, ◌+◌, ◌<◌, ◌%◌, ◌^◌, ◌≤◌, Bool, true, false, cond, List, [], ◌∷◌, ◌++◌, length, take, None, refl, sym, ap, subst, ◌∙◌, arith, append_assoc}
 use Rattle.std.specs.Prelude.{◌==◌, ◌&&◌, ◌||◌, nat_le}
 use Rattle.std.specs.List.{prefix_len, flat_map, list_all}
-use Rattle.std.proofs.lemmas.List.{length-append, take_at, drop_at}
+use Rattle.std.proofs.lemmas.List.{length-append, take_at}
 use Rattle.std.proofs.lemmas.Bool.Decides.{nat_tests}
-use Rattle.std.proofs.lemmas.Bool.{lt-ltb, le-leb, eqb-true}
+use Rattle.std.proofs.lemmas.Bool.{lt-ltb, le-ltb, le-leb, eqb-true}
 use Rattle.std.proofs.lemmas.List.Concat.{flat_map-cons}
 use Rattle.value_core.specs.Leaves.{is_text, is_blob, is_printable}
 use Rattle.micheline_text.specs.declared.gap.Gap.TheVariants as gap
@@ -14,16 +14,16 @@ use Rattle.micheline_text.specs.declared.token.Token.{Token}
 use Rattle.micheline_text.specs.declared.token.Token.TheVariants as token
 use Rattle.micheline_text.specs.Kinds.{is_digit, is_letter, is_word_byte, is_note_byte, is_hex, begins_note, is_blank, is_plain}
 use Rattle.micheline_text.specs.Gaps.{gap_from}
-use Rattle.micheline_text.specs.Lexing.{token_at, tokens_of, word_at, note_at, digits_at, begins_hex, number_token, numeral, signed, decimal_value, bytes_token, unhex, quoted, Quoted, text_by}
-use Rattle.micheline_text.specs.Layout.{AllAre, Stops, IsSpelled, IsLaidOut, sign}
+use Rattle.micheline_text.specs.Lexing.{front_token, word_at, note_at, digits_at, begins_hex, number_token, numeral, bytes_token, quoted, Quoted, text_by}
+use Rattle.micheline_text.specs.Literals.{signed, decimal_value, unhex}
+use Rattle.micheline_text.specs.Layout.{AllAre, Stops, IsNumeral, IsSpelled}
 use Rattle.micheline_text.specs.Printed.{escaped}
-use Rattle.micheline_text.proofs.Laid.{gap_passes, last_ends, run_stops, letter_is, note_is, digit_is}
-use Rattle.micheline_text.proofs.TokensLemmas.{no_token, one_token}
+use Rattle.micheline_text.proofs.Laid.{run_stops, letter_is, note_is, digit_is}
 
 -- the token is read from the front of the bytes, which no gap begins
 pub record IsRead (t : Token) (s rest : List ℕ) : Type 0 where
   pub begins : gap_from mode.Between (s ++ rest) ≡ gap.Token (length (s ++ rest))
-  pub token : token_at (s ++ rest) ≡ (t, length s)
+  pub token : front_token (s ++ rest) ≡ (t, length s)
 
 no_gap : (b : ℕ) (bytes : List ℕ) → is_blank b ≡ false → (b == 35) ≡ false → (b == 47) ≡ false → gap_from mode.Between (b ∷ bytes) ≡ gap.Token (length (b ∷ bytes))
 no_gap b bytes blank hash slash = rw (blank, hash, slash) refl
@@ -37,7 +37,7 @@ word_read : (b : ℕ) (more rest : List ℕ) → is_letter b ≡ true → AllAre
 word_read b more rest first all stops =
     let l = letter_is b first in
     let n : prefix_len is_word_byte ((b ∷ more) ++ rest) ≡ length (b ∷ more) = run_stops is_word_byte (b ∷ more) rest (word_byte b first, all) stops in
-    let way : token_at ((b ∷ more) ++ rest) ≡ word_at ((b ∷ more) ++ rest) = rw (l.0, l.1, l.2, first) refl in
+    let way : front_token ((b ∷ more) ++ rest) ≡ word_at ((b ∷ more) ++ rest) = rw (l.0, l.1, l.2, first) refl in
     record {
       begins = no_gap b (more ++ rest) l.3 l.4 l.5;
       token = way ∙ ap (λ (k : ℕ). (token.Word (take k ((b ∷ more) ++ rest)), k)) n ∙ ap (λ (w : List ℕ). (token.Word w, length (b ∷ more))) (take_at (b ∷ more) rest (length (b ∷ more)) refl);
@@ -47,7 +47,7 @@ note_read : (b : ℕ) (more rest : List ℕ) → begins_note b ≡ true → AllA
 note_read b more rest first all stops =
     let l = note_is b first in
     let n : 1 + prefix_len is_note_byte (more ++ rest) ≡ length (b ∷ more) = rw (run_stops is_note_byte more rest all stops) (omega arith) in
-    let way : token_at ((b ∷ more) ++ rest) ≡ note_at ((b ∷ more) ++ rest) = rw (l.0, l.1, l.2, l.3, first) refl in
+    let way : front_token ((b ∷ more) ++ rest) ≡ note_at ((b ∷ more) ++ rest) = rw (l.0, l.1, l.2, l.3, first) refl in
     record {
       begins = no_gap b (more ++ rest) l.4 l.5 l.6;
       token = way ∙ ap (λ (k : ℕ). (token.Note (take k ((b ∷ more) ++ rest)), k)) n ∙ ap (λ (w : List ℕ). (token.Note w, length (b ∷ more))) (take_at (b ∷ more) rest (length (b ∷ more)) refl);
@@ -55,19 +55,21 @@ note_read b more rest first all stops =
 
 -- ---- numbers
 
-numeral_is : (below : Bool) (n : ℕ) → n < 2 ^ 127 → numeral below n ≡ token.Number (signed below n)
+pub numeral_is : (below : Bool) (n : ℕ) → n < 2 ^ 127 → numeral below n ≡ token.Number (signed below n)
 numeral_is below n small = ap (λ (b : Bool). cond b (token.Number (signed below n)) token.Wide) (lt-ltb n (2 ^ 127) small)
 
-minus_read : (digits rest : List ℕ) → digits ≢ [] → AllAre is_digit digits → decimal_value digits < 2 ^ 127 → Stops is_digit rest → IsRead (token.Number (signed true (decimal_value digits))) (45 ∷ digits) rest
-minus_read [] rest some all small stops = absurd (some refl)
-minus_read (d ∷ ds) rest some all small stops =
+pub wide_is : (below : Bool) (n : ℕ) → 2 ^ 127 ≤ n → numeral below n ≡ token.Wide
+wide_is below n wide = ap (λ (b : Bool). cond b (token.Number (signed below n)) token.Wide) (le-ltb n (2 ^ 127) wide)
+
+minus_read : (t : Token) (digits rest : List ℕ) → digits ≢ [] → AllAre is_digit digits → numeral true (decimal_value digits) ≡ t → Stops is_digit rest → IsRead t (45 ∷ digits) rest
+minus_read t [] rest some all is stops = absurd (some refl)
+minus_read t (d ∷ ds) rest some all is stops =
     let digits : List ℕ = d ∷ ds in
     let n : prefix_len is_digit (digits ++ rest) ≡ length digits = run_stops is_digit digits rest all stops in
     let more : (length digits == 0) ≡ false = grind (arith, nat_tests) in
-    let way : token_at ((45 ∷ digits) ++ rest) ≡ cond (length digits == 0) (token.Faulty, 1) (number_token true (take (length digits) (digits ++ rest)), 1 + length digits) =
+    let way : front_token ((45 ∷ digits) ++ rest) ≡ cond (length digits == 0) (token.Faulty, 1) (number_token true (take (length digits) (digits ++ rest)), 1 + length digits) =
     ap (λ (k : ℕ). cond (k == 0) (token.Faulty, 1) (number_token true (take k (digits ++ rest)), 1 + k)) n in
-    let value : number_token true (take (length digits) (digits ++ rest)) ≡ token.Number (signed true (decimal_value digits)) =
-    ap (number_token true) (take_at digits rest (length digits) refl) ∙ numeral_is true (decimal_value digits) small in
+    let value : number_token true (take (length digits) (digits ++ rest)) ≡ t = ap (number_token true) (take_at digits rest (length digits) refl) ∙ is in
     let size : 1 + length digits ≡ length (45 ∷ digits) = omega arith in
     record { begins = refl; token = way ∙ rw (more, value, size) refl }
 
@@ -99,20 +101,19 @@ no_hex : (d : ℕ) (ds rest : List ℕ) → AllAre is_digit ds → (d ∷ ds ≡
 no_hex d [] rest all stops = zero_alone d rest (d == 48) refl stops
 no_hex d (e ∷ ds) rest all stops = and_false (nat_le 2 (length (d ∷ e ∷ (ds ++ rest)))) (d == 48) (e == 120) (hex_digit_not e all.0)
 
-digits_read : (digits rest : List ℕ) → digits ≢ [] → AllAre is_digit digits → decimal_value digits < 2 ^ 127 → Stops is_digit rest → (digits ≡ 48 ∷ [] → Stops (λ b. b == 120) rest) →
-    IsRead (token.Number (pos (decimal_value digits))) digits rest
-digits_read [] rest some all small stops hex = absurd (some refl)
-digits_read (d ∷ ds) rest some all small stops hex =
+digits_read : (t : Token) (digits rest : List ℕ) → digits ≢ [] → AllAre is_digit digits → numeral false (decimal_value digits) ≡ t → Stops is_digit rest → (digits ≡ 48 ∷ [] → Stops (λ b. b == 120) rest) →
+    IsRead t digits rest
+digits_read t [] rest some all is stops hex = absurd (some refl)
+digits_read t (d ∷ ds) rest some all is stops hex =
     let digits : List ℕ = d ∷ ds in
     let l = digit_is d all.0 in
     let n : prefix_len is_digit (digits ++ rest) ≡ length digits = run_stops is_digit digits rest all stops in
-    let way : token_at (digits ++ rest) ≡ digits_at (digits ++ rest) = rw (l.0, l.1, all.0) refl in
+    let way : front_token (digits ++ rest) ≡ digits_at (digits ++ rest) = rw (l.0, l.1, all.0) refl in
     let decimal : digits_at (digits ++ rest) ≡ (number_token false (take (prefix_len is_digit (digits ++ rest)) (digits ++ rest)), prefix_len is_digit (digits ++ rest)) = rw (no_hex d ds rest all.1 hex) refl in
-    let value : number_token false (take (length digits) (digits ++ rest)) ≡ token.Number (pos (decimal_value digits)) =
-    ap (number_token false) (take_at digits rest (length digits) refl) ∙ numeral_is false (decimal_value digits) small in
+    let value : number_token false (take (length digits) (digits ++ rest)) ≡ t = ap (number_token false) (take_at digits rest (length digits) refl) ∙ is in
     record {
       begins = no_gap d (ds ++ rest) l.2 l.3 l.4;
-      token = way ∙ decimal ∙ ap (λ (k : ℕ). (number_token false (take k (digits ++ rest)), k)) n ∙ ap (λ (t : Token). (t, length digits)) value;
+      token = way ∙ decimal ∙ ap (λ (k : ℕ). (number_token false (take k (digits ++ rest)), k)) n ∙ ap (λ (x : Token). (x, length digits)) value;
     }
 
 -- ---- byte literals
@@ -127,7 +128,7 @@ bytes_read : (digits rest : List ℕ) → AllAre is_hex digits → length digits
 bytes_read digits rest all even small stops =
     let bytes : List ℕ = digits ++ rest in
     let n : prefix_len is_hex bytes ≡ length digits = run_stops is_hex digits rest all stops in
-    let way : token_at (48 ∷ 120 ∷ bytes) ≡ (bytes_token (take (prefix_len is_hex bytes) bytes), 2 + prefix_len is_hex bytes) = rw (hex_begins bytes) refl in
+    let way : front_token (48 ∷ 120 ∷ bytes) ≡ (bytes_token (take (prefix_len is_hex bytes) bytes), 2 + prefix_len is_hex bytes) = rw (hex_begins bytes) refl in
     let pairs : (length digits % 2 == 0) ≡ true = rw even refl in
     let value : bytes_token (take (length digits) bytes) ≡ token.Bytes (unhex None digits) =
     ap bytes_token (take_at digits rest (length digits) refl) ∙ whole_bytes digits pairs small in
@@ -136,7 +137,7 @@ bytes_read digits rest all even small stops =
 
 -- ---- strings
 
-abbrev Reads : ℕ → List ℕ → List ℕ → Type 0
+abbrev pub Reads : ℕ → List ℕ → List ℕ → Type 0
 Reads b s rest = quoted false (s ++ rest) ≡ (b ∷ (quoted false rest).0, length s + (quoted false rest).1, (quoted false rest).2)
 
 is_number : (b n : ℕ) → (b == n) ≡ true → n ≡ b
@@ -158,7 +159,7 @@ plain_read : (b : ℕ) (rest : List ℕ) → (b == 34) ≡ false → (b == 92) �
 plain_read b rest q s p = rw (q, s, p) refl
 
 -- how a byte of a string is spelled, and read again
-escaped_read : (b : ℕ) (rest : List ℕ) → is_printable b ≡ true → Reads b (escaped b) rest
+pub escaped_read : (b : ℕ) (rest : List ℕ) → is_printable b ≡ true → Reads b (escaped b) rest
 escaped_read b rest e = newline (b == 10) refl
   where
     plain : (quote slash : Bool) → (b == 34) ≡ quote → (b == 92) ≡ slash → (b == 10) ≡ false → Reads b (escaped b) rest
@@ -179,7 +180,7 @@ escaped_read b rest e = newline (b == 10) refl
     newline true n = let is : escaped b ≡ 92 ∷ 110 ∷ [] = rw n refl in subst (λ (x : List ℕ). Reads b x rest) (sym is) (newline_read b rest n)
     newline false n = plain (b == 34) (b == 92) refl refl n
 
-both : (a b : Bool) → (a && b) ≡ true → (a ≡ true) × (b ≡ true)
+pub both : (a b : Bool) → (a && b) ≡ true → (a ≡ true) × (b ≡ true)
 both true b e = (refl, e)
 both false b e = absurd cc
 
@@ -202,24 +203,20 @@ text_read t rest ok =
     let body : List ℕ = flat_map escaped t in
     let bytes : List ℕ = (34 ∷ (body ++ 34 ∷ [])) ++ rest in
     let regrouped : bytes ≡ 34 ∷ (body ++ 34 ∷ rest) = ap (λ (x : List ℕ). 34 ∷ x) (append_assoc body (34 ∷ []) rest) in
-    let way : token_at (34 ∷ (body ++ 34 ∷ rest)) ≡ (text_by ending.Closed t, 1 + (length body + 1)) = ap (λ (q : Quoted). (text_by q.2 q.0, 1 + q.1)) (string_read t rest printable.1) in
+    let way : front_token (34 ∷ (body ++ 34 ∷ rest)) ≡ (text_by ending.Closed t, 1 + (length body + 1)) = ap (λ (q : Quoted). (text_by q.2 q.0, 1 + q.1)) (string_read t rest printable.1) in
     let value : text_by ending.Closed t ≡ token.Text t = rw ok refl in
     let count : 1 + (length body + 1) ≡ length (34 ∷ (body ++ 34 ∷ [])) = omega (arith, length-append body (34 ∷ [])) in
-    record { begins = refl; token = ap token_at regrouped ∙ way ∙ (λ i. (value i, count i)) }
+    record { begins = refl; token = ap front_token regrouped ∙ way ∙ (λ i. (value i, count i)) }
 
 -- ---- any token
 
-number_spelled : (below : Bool) (digits s rest : List ℕ) (z : ℤ) → s ≡ sign below ++ digits → digits ≢ [] → AllAre is_digit digits → decimal_value digits < 2 ^ 127 →
-    z ≡ signed below (decimal_value digits) → Stops is_digit rest → (s ≡ 48 ∷ [] → Stops (λ b. b == 120) rest) → IsRead (token.Number z) s rest
-number_spelled true digits s rest z is some all small value stops hex =
-    subst (λ (x : List ℕ). IsRead (token.Number z) x rest) (sym is)
-    (subst (λ (y : ℤ). IsRead (token.Number y) (45 ∷ digits) rest) (sym value) (minus_read digits rest some all small stops))
-number_spelled false digits s rest z is some all small value stops hex =
-    subst (λ (x : List ℕ). IsRead (token.Number z) x rest) (sym is)
-    (subst (λ (y : ℤ). IsRead (token.Number y) digits rest) (sym value) (digits_read digits rest some all small stops (λ zero_is. hex (is ∙ zero_is))))
+pub numeral_read : (t : Token) (below : Bool) (digits s rest : List ℕ) → IsNumeral below digits s rest → numeral below (decimal_value digits) ≡ t → IsRead t s rest
+numeral_read t true digits s rest n is = subst (λ (x : List ℕ). IsRead t x rest) (sym n.0) (minus_read t digits rest n.1 n.2 is n.3)
+numeral_read t false digits s rest n is =
+    subst (λ (x : List ℕ). IsRead t x rest) (sym n.0) (digits_read t digits rest n.1 n.2 is n.3 (λ zero_is. n.4 (n.0 ∙ zero_is)))
 
 pub spelled_read : (t : Token) (s rest : List ℕ) → IsSpelled t s rest → IsRead t s rest
-spelled_read (token.Number z) s rest p = number_spelled p.0 p.1 s rest z p.2 p.3 p.4 p.5 p.6 p.7 p.8
+spelled_read (token.Number z) s rest p = numeral_read (token.Number z) p.0 p.1 s rest p.2 (numeral_is p.0 (decimal_value p.1) p.3 ∙ ap (λ (x : ℤ). token.Number x) (sym p.4))
 spelled_read (token.Text t) s rest p = subst (λ (x : List ℕ). IsRead (token.Text t) x rest) (sym p.0) (text_read t rest p.1)
 spelled_read (token.Bytes t) s rest p =
     subst (λ (x : List ℕ). IsRead (token.Bytes t) x rest) (sym p.1)
@@ -239,22 +236,3 @@ spelled_read token.Wide s rest p = absurd p
 spelled_read token.OpenText s rest p = absurd p
 spelled_read token.OpenComment s rest p = absurd p
 spelled_read token.Faulty s rest p = absurd p
-
--- ---- all tokens
-
--- bytes that are laid out as tokens are read as these
-pub laid_is_read : (ts : List (ℕ × Token)) (at : ℕ) (bytes : List ℕ) → IsLaidOut at bytes ts → tokens_of at bytes ≡ ts
-laid_is_read [] at bytes p = no_token at bytes (last_ends bytes p)
-laid_is_read (t ∷ ts) at bytes p =
-    let s = p.1 in
-    let there : List ℕ = s ++ p.2 in
-    let r = spelled_read t.1 s p.2 p.6 in
-    let passed : gap_from mode.Between bytes ≡ gap.Token (length there) = ap (gap_from mode.Between) p.3 ∙ gap_passes p.0 there p.4 ∙ r.begins in
-    let total : length bytes ≡ length p.0 + length there = ap length p.3 ∙ length-append p.0 there in
-    let from : length bytes - length there ≡ length p.0 = omega arith in
-    let found : drop (length bytes - length there) bytes ≡ there = ap (λ (k : ℕ). drop k bytes) from ∙ ap (drop (length p.0)) p.3 ∙ drop_at p.0 there (length p.0) refl in
-    let place : at + (length bytes - length there) ≡ t.0 = ap (λ (k : ℕ). at + k) from ∙ sym p.5 in
-    let read : token_at (drop (length bytes - length there) bytes) ≡ (t.1, length s) = ap token_at found ∙ r.token in
-    let behind : drop (length s) (drop (length bytes - length there) bytes) ≡ p.2 = ap (drop (length s)) found ∙ drop_at s p.2 (length s) refl in
-    let rest = laid_is_read ts (t.0 + length s) p.2 p.7 in
-    one_token at bytes (length there) passed ∙ rw (read, place, behind, rest) refl

@@ -6,7 +6,7 @@ use Rattle.std.specs.List.{prefix_len}
 use Rattle.std.specs.Prelude.{slice_index, ◌==◌}
 use Rattle.micheline_text.specs.Kinds.{is_blank, is_digit, is_letter, is_word_byte, begins_note}
 use Rattle.micheline_text.specs.Gaps.{gap_from, gap_end, move_at, after_move, IsLeft, GapWithin, ModeWithin, MoveWithin}
-use Rattle.micheline_text.specs.Lexing.{token_at, minus_at, digits_at, word_at, begins_hex, tokens_from, tokens_of, after_gap}
+use Rattle.micheline_text.specs.Lexing.{front_token, is_faulty, token_at, minus_at, digits_at, word_at, begins_hex, tokens_from, tokens_of, after_gap}
 use Rattle.micheline_text.specs.declared.token.Token.{Token}
 use Rattle.micheline_text.specs.declared.token.Token.TheVariants as token
 use Rattle.micheline_text.specs.declared.gap.Gap.{Gap}
@@ -36,14 +36,21 @@ digits_take bytes some first = chosen (begins_hex bytes) _ _ (λ e. omega arith)
 minus_takes : (bytes : List ℕ) → 1 ≤ (minus_at bytes).1
 minus_takes bytes = chosen (prefix_len is_digit (drop 1 bytes) == 0) _ _ (λ e. omega arith) (λ e. omega arith)
 
-pub token_takes : (bytes : List ℕ) → 1 ≤ length bytes → 1 ≤ (token_at bytes).1
-token_takes bytes some =
+front_takes : (bytes : List ℕ) → 1 ≤ length bytes → 1 ≤ (front_token bytes).1
+front_takes bytes some =
     let b = slice_index bytes 0 in
     chosen (b == 34) _ _ (λ e. omega arith)
     (λ e. chosen (b == 45) _ _ (λ e. minus_takes bytes)
     (λ e. chosen (is_digit b) _ _ (digits_take bytes some)
     (λ e. chosen (is_letter b) _ _ (word_takes bytes some)
     (λ e. chosen (begins_note b) _ _ (λ e. omega arith) (λ e. omega arith)))))
+
+reach_takes : (none : Bool) (left taken : ℕ) → 1 ≤ left → 1 ≤ taken → 1 ≤ cond none left taken
+reach_takes true left taken some takes = some
+reach_takes false left taken some takes = takes
+
+pub token_takes : (bytes : List ℕ) → 1 ≤ length bytes → 1 ≤ (token_at bytes).1
+token_takes bytes some = reach_takes (is_faulty (front_token bytes).0) (length bytes) (front_token bytes).1 some (front_takes bytes some)
 
 -- ---- what follows a gap stands in the bytes
 

@@ -1,16 +1,16 @@
 -- Which nodes are printed as texts of the grammar, and what is read of them.
-use Rattle.std.specs.Prelude.{◌≡◌, ℕ, ℤ, zero, suc, ◌≤◌, ◌⊎◌, true, nat_lt, IsTrue, List, [], ◌∷◌}
-use Rattle.std.specs.List.{AllByRecursion}
-use Rattle.value_core.specs.Leaves.{IsNumber, is_text, is_blob}
+use Rattle.std.specs.Prelude.{◌≡◌, ℕ, ℤ, pos, negsuc, ◌+◌, ◌-◌, ◌^◌, Bool, true, false, not, ◌&&◌, if◌then◌else◌, int_le, nat_lt, List, [], ◌∷◌, map}
+use Rattle.std.specs.List.{list_all}
+use Rattle.value_core.specs.Depth.{greatest}
+use Rattle.value_core.specs.Leaves.{is_text, is_blob}
 use Rattle.micheline_text.specs.declared.node.Node.{Node}
 use Rattle.micheline_text.specs.declared.node.Body.{Body}
-use Rattle.micheline_text.specs.declared.node.Body.TheVariants as variant
+use Rattle.micheline_text.specs.declared.node.Body.TheOpen as one
+use Rattle.micheline_text.specs.declared.node.Body.TheOpen.{Body-F}
 use Rattle.micheline_text.specs.declared.node.Body.TheViews.{roll-Body}
 use Rattle.micheline_text.specs.declared.node.Body.TheFolds.{fold-Body, fold-Node}
 use Rattle.micheline_text.specs.Kinds.{is_letter, is_word_byte, begins_note, is_note_byte}
-use Rattle.micheline_text.specs.Layout.{AllAre}
-use Rattle.micheline_text.specs.Grammar.{Bracket, Brace, Paren}
-use Rattle.micheline_text.specs.Printed.{print_body}
+use Rattle.micheline_text.specs.Printed.{is_empty}
 use Rattle.micheline_text.specs.Text.{IsTextOf}
 
 -- the node with 0 for each place in it
@@ -20,44 +20,72 @@ unplaced = fold-Node Body Node roll-Body (λ n. record { at = 0; body = n.body }
 abbrev pub unplaced_body : Body → Body
 unplaced_body = fold-Body Body Node roll-Body (λ n. record { at = 0; body = n.body })
 
+-- ---- what the program can hold
+
+-- from -(2^127 - 1) to 2^127 - 1
+abbrev pub is_number : ℤ → Bool
+is_number z = int_le (negsuc (2 ^ 127 - 2)) z && int_le z (pos (2 ^ 127 - 1))
+
+-- one level of a node, whose parts say whether they are lawful
+abbrev pub lawful_level : Body-F Bool Bool → Bool
+lawful_level (one.Int z) = is_number z
+lawful_level (one.Text t) = is_text t
+lawful_level (one.Bytes b) = is_blob b && list_all (λ x. nat_lt x 256) b
+lawful_level (one.Prim name notes args) = list_all (λ lawful. lawful) args
+lawful_level (one.Seq ns) = list_all (λ lawful. lawful) ns
+
+abbrev pub is_lawful_body : Body → Bool
+is_lawful_body = fold-Body Bool Bool lawful_level (λ n. n.body)
+
+-- each number, text and byte literal in the node is one
+abbrev pub is_lawful : Node → Bool
+is_lawful = fold-Node Bool Bool lawful_level (λ n. n.body)
+
+-- ---- what the grammar has
+
 -- a word of the grammar, and an annotation
-abbrev pub IsName : List ℕ → Type 0
-IsName [] = ⊥
-IsName (b ∷ more) = IsTrue (is_letter b) × AllAre is_word_byte more
+abbrev pub is_word : List ℕ → Bool
+is_word [] = false
+is_word (b ∷ more) = is_letter b && list_all is_word_byte more
 
-abbrev pub IsNote : List ℕ → Type 0
-IsNote [] = ⊥
-IsNote (b ∷ more) = IsTrue (begins_note b) × AllAre is_note_byte more
+abbrev pub is_annotation : List ℕ → Bool
+is_annotation [] = false
+is_annotation (b ∷ more) = begins_note b && list_all is_note_byte more
 
--- each number, text and byte literal is one, whatever its type promises
-abbrev pub IsFitLiteral : Body → Type 0
-IsFitLiteral b = ((z : ℤ) × (b ≡ variant.Int z) × IsNumber z)
-    ⊎ (((t : List ℕ) × (b ≡ variant.Text t) × IsTrue (is_text t))
-    ⊎ ((t : List ℕ) × (b ≡ variant.Bytes t) × IsTrue (is_blob t) × AllAre (λ x. nat_lt x 256) t))
+-- one level of a node, whose parts say whether they are well named
+abbrev pub named_level : Body-F Bool Bool → Bool
+named_level (one.Prim name notes args) = is_word name && (list_all is_annotation notes && list_all (λ named. named) args)
+named_level (one.Seq ns) = list_all (λ named. named) ns
+named_level x = true
 
-abbrev pub IsFitApplication : (Body → Type 0) → Body → Type 0
-IsFitApplication Argument b = (name : List ℕ) × (notes : List (List ℕ)) × (args : List Node) × (b ≡ variant.Prim name notes args) ×
-    IsName name × AllByRecursion IsNote notes × AllByRecursion (λ n. Argument n.body) args
+-- each name in the node is a word, and each annotation is one
+abbrev pub is_well_named : Node → Bool
+is_well_named = fold-Node Bool Bool named_level (λ n. n.body)
 
--- as the grammar has them; Inside says what fits into brackets
-abbrev pub IsFitArgument : (Bracket → Body → Type 0) → Body → Type 0
-IsFitArgument Inside b = IsFitLiteral b ⊎ (((name : List ℕ) × (b ≡ variant.Prim name [] []) × IsName name) ⊎ (Inside Brace b ⊎ Inside Paren b))
+-- how many brackets go round what stands in a node, and whether it stands in parentheses as an argument
+abbrev pub Depth : Type 0
+Depth = ℕ × Bool
 
-abbrev pub IsFitNode : (Bracket → Body → Type 0) → Body → Type 0
-IsFitNode Inside b = IsFitLiteral b ⊎ (Inside Brace b ⊎ IsFitApplication (IsFitArgument Inside) b)
+abbrev pub argument_depth : Depth → ℕ
+argument_depth d = if d.1 then 1 + d.0 else d.0
 
-abbrev pub IsFitContent : Bracket → (Bracket → Body → Type 0) → Body → Type 0
-IsFitContent Brace Inside b = (ns : List Node) × (b ≡ variant.Seq ns) × AllByRecursion (λ n. IsFitNode Inside n.body) ns
-IsFitContent Paren Inside b = IsFitApplication (IsFitArgument Inside) b × ((print_body b).1 ≡ true)
+-- one level of a node, with the depth of each part
+abbrev pub brackets_level : Body-F Depth Depth → Depth
+brackets_level (one.Prim name notes args) = (greatest (map argument_depth args), not (is_empty notes && is_empty args))
+brackets_level (one.Seq ns) = (1 + greatest (map (λ d. d.0) ns), false)
+brackets_level x = (0, false)
 
--- with brackets at most so deep, they among them
-abbrev pub IsInside : ℕ → Bracket → Body → Type 0
-IsInside zero k b = ⊥
-IsInside (suc d) k b = IsFitContent k (IsInside d) b
+abbrev pub depth_of_body : Body → Depth
+depth_of_body = fold-Body Depth Depth brackets_level (λ n. n.body)
 
--- names and annotations are the grammar's, and the text is at most 256 brackets deep
-abbrev pub IsPrintable : Node → Type 0
-IsPrintable n = (d : ℕ) × (d ≤ 256) × IsFitNode (IsInside d) n.body
+abbrev pub depth_of_node : Node → Depth
+depth_of_node = fold-Node Depth Depth brackets_level (λ n. n.body)
+
+-- how deep the brackets of the printed text go
+abbrev pub brackets : Node → ℕ
+brackets n = (depth_of_node n).0
+
+-- ---- what is read
 
 -- the bytes are a text of one node, equal to this one up to places
 abbrev pub IsTextOfOne : List ℕ → Node → Type 0

@@ -6,6 +6,7 @@ use Rattle.micheline_text.specs.declared.node.Node.{Node}
 use Rattle.micheline_text.specs.declared.token.Token.{Token}
 use Rattle.micheline_text.specs.declared.token.Token.TheVariants as token
 use Rattle.micheline_text.specs.Grammar.{Tokens, Bracket, Brace, Paren, begins, IsText}
+use Rattle.micheline_text.specs.Cuts.{IsCutInto}
 
 -- some tokens behind these make them a text of the grammar
 abbrev pub GoesOn : Tokens → Type 0
@@ -47,10 +48,12 @@ pub record IsStuck (before : Tokens) (at : ℕ) (t : Token) : Type 0 where
   pub goes_on : GoesOn before
   pub stuck : GoesOn (before ++ (at, t) ∷ []) → ⊥
 
--- neither a numeral that is only too wide, nor a bracket that is only too deep
+-- neither a numeral that is only too wide, nor a bracket that is only too deep, nor what only has no end
 pub record IsNoOther (before : Tokens) (at : ℕ) (t : Token) : Type 0 where
   pub not_wide : t ≡ token.Wide → LiteralGoes before at → ⊥
   pub not_deep : (k : Bracket) → t ≡ begins k → BracketGoes k before at → ⊥
+  pub not_open : t ≡ token.OpenComment → ⊥
+  pub not_unclosed : t ≡ token.OpenText → LiteralGoes before at → ⊥
 
 -- something has no end: a bracket, or a string or a comment in the place of a token that could follow
 abbrev pub IsOpen : Tokens → Tokens → ℕ → Type 0
@@ -65,4 +68,8 @@ IsFault ts (fault.WiderNumber p) = (before after : Tokens) × (ts ≡ before ++ 
 IsFault ts (fault.TooDeep p) = (before after : Tokens) × (k : Bracket) × (ts ≡ before ++ (p, begins k) ∷ after) × IsStuck before p (begins k) × BracketGoes k before p ×
     (256 ≤ length (open_places [] before))
 IsFault ts (fault.Unclosed p) = (before after : Tokens) × (ts ≡ before ++ after) × GoesOn before × IsOpen before after p
-IsFault ts fault.NoMemory = Unit {0}
+IsFault ts fault.NoMemory = ⊥
+
+-- the fault of bytes, by the tokens that they are cut into
+abbrev pub IsFaultOf : List ℕ → TextFault → Type 0
+IsFaultOf bytes f = (ts : Tokens) × IsCutInto 0 bytes ts × IsFault ts f

@@ -1,14 +1,17 @@
 -- Which tokens make up a text of Micheline, each node with its place.
 use Rattle.std.specs.Prelude.{◌≡◌, ℕ, ℤ, zero, suc, ◌≤◌, ◌⊎◌, List, [], ◌∷◌, ◌++◌}
 use Rattle.micheline_text.specs.declared.node.Node.{Node}
+use Rattle.micheline_text.specs.declared.node.Body.{Body}
 use Rattle.micheline_text.specs.declared.node.Body.TheVariants as body
 use Rattle.micheline_text.specs.declared.token.Token.{Token}
 use Rattle.micheline_text.specs.declared.token.Token.TheVariants as token
-use Rattle.micheline_text.specs.Reading.{node_at}
 
 -- tokens, each with the offset of its first byte
 abbrev pub Tokens : Type 0
 Tokens = List (ℕ × Token)
+
+abbrev pub node_at : ℕ → Body → Node
+node_at at b = record { at = at; body = b }
 
 -- a number, a string or a byte literal
 abbrev pub IsLiteral : Tokens → Node → Type 0

@@ -5,7 +5,7 @@ use Rattle.value_core.specs.Leaves.{is_text, is_blob}
 use Rattle.micheline_text.specs.declared.token.Token.{Token}
 use Rattle.micheline_text.specs.declared.token.Token.TheVariants as token
 use Rattle.micheline_text.specs.Kinds.{is_digit, is_letter, is_word_byte, is_note_byte, is_hex, begins_note, is_blank}
-use Rattle.micheline_text.specs.Lexing.{decimal_value, signed, unhex}
+use Rattle.micheline_text.specs.Literals.{decimal_value, signed, unhex}
 use Rattle.micheline_text.specs.Printed.{escaped}
 use Rattle.micheline_text.specs.Grammar.{Tokens}
 
@@ -47,10 +47,13 @@ abbrev pub sign : Bool → List ℕ
 sign false = []
 sign true = 45 ∷ []
 
+-- digits behind their sign, with these bytes behind them; `0x` begins a byte literal
+abbrev pub IsNumeral : Bool → List ℕ → List ℕ → List ℕ → Type 0
+IsNumeral below digits s rest = (s ≡ sign below ++ digits) × (digits ≢ []) × AllAre is_digit digits × Stops is_digit rest × (s ≡ 48 ∷ [] → Stops (λ b. b == 120) rest)
+
 -- with these bytes behind it
 abbrev pub IsSpelled : Token → List ℕ → List ℕ → Type 0
-IsSpelled (token.Number z) s rest = (below : Bool) × (digits : List ℕ) × (s ≡ sign below ++ digits) × (digits ≢ []) × AllAre is_digit digits ×
-    (decimal_value digits < 2 ^ 127) × (z ≡ signed below (decimal_value digits)) × Stops is_digit rest × (s ≡ 48 ∷ [] → Stops (λ b. b == 120) rest)
+IsSpelled (token.Number z) s rest = (below : Bool) × (digits : List ℕ) × IsNumeral below digits s rest × (decimal_value digits < 2 ^ 127) × (z ≡ signed below (decimal_value digits))
 IsSpelled (token.Text t) s rest = (s ≡ 34 ∷ (flat_map escaped t ++ 34 ∷ [])) × IsTrue (is_text t)
 IsSpelled (token.Bytes t) s rest = (digits : List ℕ) × (s ≡ 48 ∷ 120 ∷ digits) × AllAre is_hex digits × (length digits % 2 ≡ 0) × (t ≡ unhex None digits) × IsTrue (is_blob t) × Stops is_hex rest
 IsSpelled (token.Word w) s rest = (first : ℕ) × (more : List ℕ) × (s ≡ first ∷ more) × (w ≡ s) × IsTrue (is_letter first) × AllAre is_word_byte more × Stops is_word_byte rest
@@ -65,7 +68,13 @@ IsSpelled token.OpenText s rest = ⊥
 IsSpelled token.OpenComment s rest = ⊥
 IsSpelled token.Faulty s rest = ⊥
 
--- the bytes, of which the first has this offset, are laid out as the tokens
+-- ---- all tokens
+
+-- the bytes, of which the first has this offset, are these with gaps between them
+abbrev pub ArePlaced : (Token → List ℕ → List ℕ → Type 0) → ℕ → List ℕ → Tokens → Type 0
+ArePlaced Is at bytes [] = IsLast bytes
+ArePlaced Is at bytes (t ∷ ts) = (gap s rest : List ℕ) × (bytes ≡ gap ++ (s ++ rest)) × IsGap gap × (t.0 ≡ at + length gap) × Is t.1 s rest × ArePlaced Is (t.0 + length s) rest ts
+
+-- the bytes are laid out as the tokens
 abbrev pub IsLaidOut : ℕ → List ℕ → Tokens → Type 0
-IsLaidOut at bytes [] = IsLast bytes
-IsLaidOut at bytes (t ∷ ts) = (gap s rest : List ℕ) × (bytes ≡ gap ++ (s ++ rest)) × IsGap gap × (t.0 ≡ at + length gap) × IsSpelled t.1 s rest × IsLaidOut (t.0 + length s) rest ts
+IsLaidOut = ArePlaced IsSpelled

@@ -1,9 +1,10 @@
 -- The token in front of bytes that begin with no gap, and how many bytes it takes.
-use Rattle.std.specs.Prelude.{ℕ, zero, suc, ◌+◌, ◌-◌, ◌*◌, ◌%◌, ◌^◌, ℤ, pos, negsuc, Bool, true, false, List, [], ◌∷◌, length, take, drop, nat_lt, nat_le, ◌==◌, ◌&&◌, ◌||◌, if◌then◌else◌, fold, slice_index, Option, Some, None}
+use Rattle.std.specs.Prelude.{ℕ, zero, suc, ◌+◌, ◌-◌, ◌%◌, ◌^◌, Bool, true, false, List, [], ◌∷◌, length, take, drop, nat_lt, nat_le, ◌==◌, ◌&&◌, ◌||◌, if◌then◌else◌, slice_index, None}
 use Rattle.std.specs.List.{prefix_len}
 use Rattle.value_core.specs.Leaves.{is_text, is_blob}
 use Rattle.micheline_text.specs.Kinds.{is_digit, is_letter, is_word_byte, is_note_byte, is_hex, begins_note, is_plain}
 use Rattle.micheline_text.specs.Gaps.{gap_from}
+use Rattle.micheline_text.specs.Literals.{decimal_value, signed, unhex}
 use Rattle.micheline_text.specs.declared.token.Token.{Token}
 use Rattle.micheline_text.specs.declared.token.Token.TheVariants as token
 use Rattle.micheline_text.specs.declared.text.Part.{Part}
@@ -16,16 +17,6 @@ use Rattle.micheline_text.specs.declared.gap.Mode.TheVariants as mode
 
 -- ---- numbers
 
--- the number that decimal digits stand for
-abbrev pub decimal_value : List ℕ → ℕ
-decimal_value digits = fold (λ n b. 10 * n + (b - 48)) 0 digits
-
--- the number, below zero or not
-abbrev pub signed : Bool → ℕ → ℤ
-signed false n = pos n
-signed true zero = pos 0
-signed true (suc n) = negsuc n
-
 abbrev pub numeral : Bool → ℕ → Token
 numeral below n = if nat_lt n (2 ^ 127) then token.Number (signed below n) else token.Wide
 
@@ -33,18 +24,6 @@ abbrev pub number_token : Bool → List ℕ → Token
 number_token below digits = numeral below (decimal_value digits)
 
 -- ---- byte literals
-
-abbrev pub hex_value : ℕ → ℕ
-hex_value b =
-    if nat_le 48 b && nat_le b 57 then b - 48
-    else if nat_le 65 b && nat_le b 70 then b - 55
-    else if nat_le 97 b && nat_le b 102 then b - 87 else 0
-
--- the bytes that pairs of digits stand for, after the first digit of a pair or between pairs
-abbrev pub unhex : Option ℕ → List ℕ → List ℕ
-unhex high [] = []
-unhex None (b ∷ digits) = unhex (Some (hex_value b)) digits
-unhex (Some high) (b ∷ digits) = (16 * high + hex_value b) ∷ unhex None digits
 
 abbrev pub bytes_token : List ℕ → Token
 bytes_token digits =
@@ -59,7 +38,7 @@ part_at false b =
 part_at true b =
     if b == 110 then part.Byte 10 else if (b == 34) || (b == 92) then part.Byte b else part.Wrong
 
--- a string behind its quote: what it says, how many bytes it takes, and how it ends
+-- a string behind its quote: what it says, how many bytes it takes, and how it ends; a `\` at the end says one byte more
 abbrev pub Quoted : Type 0
 Quoted = List ℕ × ℕ × Ending
 
@@ -76,7 +55,8 @@ after_part part.End rest = ([], 1, ending.Closed)
 after_part part.Wrong rest = ([], 0, ending.Wrong)
 
 abbrev pub quoted : Bool → List ℕ → Quoted
-quoted escaped [] = ([], 0, ending.Open)
+quoted false [] = ([], 0, ending.Open)
+quoted true [] = (10 ∷ [], 0, ending.Open)
 quoted escaped (b ∷ bytes) = after_part (part_at escaped b) (λ e. quoted e bytes)
 
 abbrev pub text_by : Ending → List ℕ → Token
@@ -122,8 +102,20 @@ token_by b bytes =
     else if is_digit b then digits_at bytes else if is_letter b then word_at bytes
     else if begins_note b then note_at bytes else (mark b, 1)
 
+abbrev pub front_token : List ℕ → Token × ℕ
+front_token bytes = token_by (slice_index bytes 0) bytes
+
+-- whether it begins nothing
+abbrev pub is_faulty : Token → Bool
+is_faulty token.Faulty = true
+is_faulty t = false
+
+-- how many bytes it takes: what begins nothing takes all that are left
+abbrev pub reach : Token → ℕ → ℕ → ℕ
+reach t taken left = if is_faulty t then left else taken
+
 abbrev pub token_at : List ℕ → Token × ℕ
-token_at bytes = token_by (slice_index bytes 0) bytes
+token_at bytes = let found = front_token bytes in (found.0, reach found.0 found.1 (length bytes))
 
 -- ---- all tokens
 

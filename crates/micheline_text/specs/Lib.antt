@@ -1,14 +1,16 @@
--- what the public contracts rest on: the bytes of tokens, the grammar of tokens, and printing
+-- what the public contracts rest on: the bytes of tokens, the grammar of tokens, faults, and printing
 pub mod Kinds
+pub mod Literals
 pub mod Layout
 pub mod Grammar
 pub mod Text
+pub mod Cuts
+pub mod Faults
+pub mod Fault
 pub mod Printed
 pub mod Again
--- and for faults: what stands at each place of any bytes, tokens or not, and where a text goes on
+-- what functions inside promise each other: how bytes are gone through, and what each token does
 pub mod Gaps
 pub mod Lexing
-pub mod Faults
--- what functions inside promise each other
 pub mod Reading
-pub mod Fault
+pub mod Fits

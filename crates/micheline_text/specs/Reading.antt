@@ -1,11 +1,11 @@
 -- Reading from token to token: what is open, and what each token does to it.
 use Rattle.std.specs.Prelude.{ℕ, Bool, true, false, List, [], ◌∷◌, ◌++◌, length, Result, Ok, Err, nat_le, unwrap_or, slice_get, reverse, if◌then◌else◌}
 use Rattle.std.specs.Option.{option_map}
+use Rattle.micheline_text.specs.Grammar.{node_at}
 use Rattle.micheline_text.specs.Lexing.{tokens_of}
 use Rattle.micheline_text.specs.declared.fault.TextFault.{TextFault}
 use Rattle.micheline_text.specs.declared.fault.TextFault.TheVariants as fault
 use Rattle.micheline_text.specs.declared.node.Node.{Node}
-use Rattle.micheline_text.specs.declared.node.Body.{Body}
 use Rattle.micheline_text.specs.declared.node.Body.TheVariants as body
 use Rattle.micheline_text.specs.declared.level.Application.{Application}
 use Rattle.micheline_text.specs.declared.level.Level.{Level}
@@ -13,9 +13,6 @@ use Rattle.micheline_text.specs.declared.level.Level.TheVariants as level
 use Rattle.micheline_text.specs.declared.level.Open.{Open}
 use Rattle.micheline_text.specs.declared.token.Token.{Token}
 use Rattle.micheline_text.specs.declared.token.Token.TheVariants as token
-
-abbrev pub node_at : ℕ → Body → Node
-node_at at b = record { at = at; body = b }
 
 abbrev pub node_of : Application → Node
 node_of a = node_at a.at (body.Prim a.name a.notes a.args)

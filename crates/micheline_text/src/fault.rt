@@ -14,8 +14,9 @@ pub enum TextFault {
     Unclosed(usize),
     /// A numeral beyond 2^127 - 1 on either side of 0: at its first byte.
     WiderNumber(usize),
-    /// The bracket within 256 open ones.
+    /// The bracket within 256 open ones: at it.
     TooDeep(usize),
+    /// Memory ran out.
     NoMemory,
 }
 

@@ -2,7 +2,7 @@
 
 ghost use Rattle.std.specs.Prelude.{◌≡◌, ◌≤◌, length, slice_index, IfOk, IsTrue};
 ghost use Rattle.micheline_text.specs.Kinds.{is_digit, is_letter};
-ghost use Rattle.micheline_text.specs.Lexing.{begins_hex, digits_at, mark, minus_at, note_at, token_at, word_at};
+ghost use Rattle.micheline_text.specs.Lexing.{begins_hex, digits_at, front_token, mark, minus_at, note_at, reach, token_at, word_at};
 
 use crate::NoMemory;
 use crate::kinds::{Kind, begins_note, is_digit, is_letter, run_of};
@@ -81,10 +81,9 @@ fn note_at(alloc: Global, bytes: &[u8]) -> Result<(Token, usize), NoMemory>
     Ok((Token::Note(note), n))
 }
 
-/// The token in front, and how many bytes it takes.
-pub(crate) fn token_at(alloc: Global, bytes: &[u8]) -> Result<(Token, usize), NoMemory>
+fn front_token(alloc: Global, bytes: &[u8]) -> Result<(Token, usize), NoMemory>
     requires { 1 ≤ length bytes.now }
-    ensures token { IfOk result (λ x. x ≡ token_at bytes.now) }
+    ensures token { IfOk result (λ x. x ≡ front_token bytes.now) }
     ensures within { IfOk result (λ x. (1 ≤ x.1) × (x.1 ≤ length bytes.now)) }
 {
     let b = bytes[0];
@@ -101,4 +100,25 @@ pub(crate) fn token_at(alloc: Global, bytes: &[u8]) -> Result<(Token, usize), No
     } else {
         Ok((mark(b), 1))
     }
+}
+
+fn reach(token: &Token, taken: usize, left: usize) -> usize
+    ensures reach { result ≡ reach token.now taken left }
+    ensures within { (1 ≤ taken) → (taken ≤ left) → (1 ≤ result) × (result ≤ left) }
+{
+    match token {
+        Token::Faulty => left,
+        _ => taken,
+    }
+}
+
+/// The token in front, and how many bytes it takes: all that are left, where it is none.
+pub(crate) fn token_at(alloc: Global, bytes: &[u8]) -> Result<(Token, usize), NoMemory>
+    requires { 1 ≤ length bytes.now }
+    ensures token { IfOk result (λ x. x ≡ token_at bytes.now) }
+    ensures within { IfOk result (λ x. (1 ≤ x.1) × (x.1 ≤ length bytes.now)) }
+{
+    let (token, taken) = front_token(alloc, bytes)?;
+    let end = reach(&token, taken, bytes.len());
+    Ok((token, end))
 }

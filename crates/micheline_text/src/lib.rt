@@ -5,21 +5,25 @@
 //! that has arguments or annotations of its own stands in parentheses. Blanks and comments part
 //! tokens, and nothing else is said by them.
 //!
+//! - `laws`: what is true of texts, whatever reads them.
 //! - `node`: the tree, each node with its place. Begin here.
 //! - `reader`: bytes to nodes, token by token. It keeps a stack of open brackets, and calls itself
 //!   nowhere: `level` says what may follow at each place.
 //! - `gap`, `lexer`, `text`, `literals`: what parts tokens, and the token in front.
-//! - `printer`: nodes to bytes.
+//! - `printer`: nodes to bytes. `brackets`: how deep the printed text goes.
 //! - `fault`: why bytes are no text, and where that is told.
 //!
 //! `specs/Grammar.antt` says which tokens make up a text, and knows no order of reading.
-//! `specs/Layout.antt` says which bytes are laid out as which tokens. A fault is the leftmost token
-//! after which no text of the grammar goes on (`specs/Faults.antt`).
+//! `specs/Layout.antt` says which bytes are laid out as which tokens, `specs/Cuts.antt` what is no
+//! token. A fault is the leftmost token after which no text of the grammar goes on
+//! (`specs/Faults.antt`).
 #![tactic(auto)]
 
+mod brackets;
 mod fault;
 mod gap;
 mod kinds;
+mod laws;
 mod level;
 mod lexer;
 mod literals;
@@ -31,7 +35,9 @@ mod slices;
 mod text;
 mod token;
 
+pub use brackets::brackets_within;
 pub use fault::TextFault;
+pub use laws::{bytes_are_a_text_or_have_one_fault, bytes_are_cut_in_one_way};
 pub use node::{Body, Node};
 pub use printer::print_node;
 pub use reader::read_nodes;

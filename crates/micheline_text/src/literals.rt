@@ -1,7 +1,8 @@
 //! Numerals and byte literals.
 
 ghost use Rattle.std.specs.Prelude.{◌≡◌, ◌≤◌, ◌<◌, ◌^◌, ◌*◌, ◌+◌, min, None, length, IfOk};
-ghost use Rattle.micheline_text.specs.Lexing.{bytes_token, decimal_value, hex_value, number_token, numeral, unhex};
+ghost use Rattle.micheline_text.specs.Lexing.{bytes_token, number_token, numeral};
+ghost use Rattle.micheline_text.specs.Literals.{decimal_value, hex_value, unhex};
 
 use crate::NoMemory;
 use crate::token::Token;

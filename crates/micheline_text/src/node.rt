@@ -11,7 +11,9 @@ use value_core::{Blob, Num, Text};
 #[cycle(nodes)]
 #[derive(Debug, Drop)]
 pub struct Node {
+    /// The offset of its first token in the text; of an application in parentheses, of its word.
     pub at: u32,
+    /// What stands there.
     pub body: Body,
 }
 
@@ -19,8 +21,11 @@ pub struct Node {
 #[cycle(nodes)]
 #[derive(Debug, Drop)]
 pub enum Body {
+    /// A number.
     Int(Num),
+    /// A string, as it is said and not as it is escaped.
     Text(Text),
+    /// A byte literal.
     Bytes(Blob),
     /// A word, its annotations with their first characters, and its arguments.
     Prim {
@@ -28,6 +33,7 @@ pub enum Body {
         notes: Items<Items<u8>>,
         args: Items<Node>,
     },
+    /// Nodes in braces.
     Seq(Items<Node>),
 }
 

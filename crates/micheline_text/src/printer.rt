@@ -1,9 +1,10 @@
 //! Nodes to bytes.
 
-ghost use Rattle.std.specs.Prelude.{◌≡◌, ◌++◌, ◌∷◌, [], IfOk, OnOk, map, ℕ, ◌<◌, ◌&&◌};
-ghost use Rattle.std.specs.List.{flat_map};
+ghost use Rattle.std.specs.Prelude.{◌≡◌, ◌++◌, ◌∷◌, [], IfOk, IsTrue, OnOk, map, nat_lt, ℕ, ◌<◌, ◌≤◌, ◌&&◌};
+ghost use Rattle.std.specs.List.{flat_map, list_all};
 ghost use Rattle.std.specs.Fmt.{signed_decimal};
-ghost use Rattle.micheline_text.specs.Again.{IsPrintable, IsTextOfOne};
+ghost use Rattle.micheline_text.specs.Again.{IsTextOfOne, brackets, is_lawful, is_lawful_body, is_number, is_well_named};
+ghost use Rattle.micheline_text.specs.Kinds.{is_plain};
 ghost use Rattle.micheline_text.specs.Printed.{annotation, argument, braces, escaped, hex_digit, hex_pair, is_empty, item, items, print, print_body, printed};
 
 use crate::NoMemory;
@@ -13,7 +14,8 @@ use std::alloc::Global;
 use value_core::Num;
 
 fn put_number(alloc: Global, n: Num, out: &mut Vec<u8>) -> Result<(), NoMemory>
-    ensures { OnOk result (out.new.items ≡ out.old.items ++ signed_decimal n) }
+    ensures text { OnOk result (out.new.items ≡ out.old.items ++ signed_decimal n) }
+    ensures number { IsTrue (is_number n) }
 {
     let number = n.get();
     let text = number.to_string(alloc)?;
@@ -64,7 +66,8 @@ fn put_digits(bytes: &[u8], out: &mut Vec<u8>) -> Result<(), NoMemory>
 }
 
 fn put_bytes(bytes: &[u8], out: &mut Vec<u8>) -> Result<(), NoMemory>
-    ensures { OnOk result (out.new.items ≡ out.old.items ++ 48 ∷ 120 ∷ flat_map hex_pair bytes.now) }
+    ensures text { OnOk result (out.new.items ≡ out.old.items ++ 48 ∷ 120 ∷ flat_map hex_pair bytes.now) }
+    ensures bytes { OnOk result (IsTrue (list_all (λ b. nat_lt b 256) bytes.now)) }
 {
     out.extend_from_slice(&[b'0', b'x'])?;
     put_digits(bytes, out)
@@ -89,7 +92,7 @@ fn is_word_alone(notes: &[Items<u8>], args: &[Node]) -> bool
 
 /// Whether the node stands in parentheses as an argument.
 #[tactic(auto, using(crate::proofs::PrintLemmas::printings))]
-fn stands_in_parentheses(body: &Body) -> bool
+pub(crate) fn stands_in_parentheses(body: &Body) -> bool
     ensures { result ≡ (print_body body.now).1 }
 {
     match body {
@@ -99,9 +102,10 @@ fn stands_in_parentheses(body: &Body) -> bool
 }
 
 #[cycle(printing)]
-#[tactic(auto, using(crate::proofs::PrintLemmas::printings))]
+#[tactic(auto, using(crate::proofs::PrintLemmas::printings, crate::proofs::PrintLemmas::lawful))]
 fn put_body(alloc: Global, body: &Body, out: &mut Vec<u8>) -> Result<(), NoMemory>
-    ensures { OnOk result (out.new.items ≡ out.old.items ++ (print_body body.now).0) }
+    ensures text { OnOk result (out.new.items ≡ out.old.items ++ (print_body body.now).0) }
+    ensures lawful { OnOk result (IsTrue (is_lawful_body body.now)) }
 {
     match body {
         Body::Int(n) => put_number(alloc, *n, out),
@@ -117,9 +121,10 @@ fn put_body(alloc: Global, body: &Body, out: &mut Vec<u8>) -> Result<(), NoMemor
 }
 
 #[cycle(printing)]
-#[tactic(auto, using(crate::proofs::PrintLemmas::printings))]
+#[tactic(auto, using(crate::proofs::PrintLemmas::printings, crate::proofs::PrintLemmas::lawful))]
 fn put_argument(alloc: Global, body: &Body, out: &mut Vec<u8>) -> Result<(), NoMemory>
-    ensures { OnOk result (out.new.items ≡ out.old.items ++ argument (print_body body.now)) }
+    ensures text { OnOk result (out.new.items ≡ out.old.items ++ argument (print_body body.now)) }
+    ensures lawful { OnOk result (IsTrue (is_lawful_body body.now)) }
 {
     if stands_in_parentheses(body) {
         out.extend_from_slice(&[b' ', b'('])?;
@@ -132,9 +137,10 @@ fn put_argument(alloc: Global, body: &Body, out: &mut Vec<u8>) -> Result<(), NoM
 }
 
 #[cycle(printing)]
-#[tactic(auto, using(crate::proofs::PrintLemmas::printings))]
+#[tactic(auto, using(crate::proofs::PrintLemmas::printings, crate::proofs::PrintLemmas::lawful))]
 fn put_arguments(alloc: Global, args: &[Node], out: &mut Vec<u8>) -> Result<(), NoMemory>
-    ensures { OnOk result (out.new.items ≡ out.old.items ++ flat_map argument (map print args.now)) }
+    ensures text { OnOk result (out.new.items ≡ out.old.items ++ flat_map argument (map print args.now)) }
+    ensures lawful { OnOk result (IsTrue (list_all is_lawful args.now)) }
 {
     for arg in args {
         put_argument(alloc, &arg.body, out)?;
@@ -143,9 +149,10 @@ fn put_arguments(alloc: Global, args: &[Node], out: &mut Vec<u8>) -> Result<(), 
 }
 
 #[cycle(printing)]
-#[tactic(auto, using(crate::proofs::PrintLemmas::printings))]
+#[tactic(auto, using(crate::proofs::PrintLemmas::printings, crate::proofs::PrintLemmas::lawful))]
 fn put_braces(alloc: Global, nodes: &[Node], out: &mut Vec<u8>) -> Result<(), NoMemory>
-    ensures { OnOk result (out.new.items ≡ out.old.items ++ braces (map print nodes.now)) }
+    ensures text { OnOk result (out.new.items ≡ out.old.items ++ braces (map print nodes.now)) }
+    ensures lawful { OnOk result (IsTrue (list_all is_lawful nodes.now)) }
 {
     if nodes.is_empty() {
         return out.extend_from_slice(&[b'{', b'}']);
@@ -156,9 +163,10 @@ fn put_braces(alloc: Global, nodes: &[Node], out: &mut Vec<u8>) -> Result<(), No
 }
 
 #[cycle(printing)]
-#[tactic(auto, using(crate::proofs::PrintLemmas::printings))]
+#[tactic(auto, using(crate::proofs::PrintLemmas::printings, crate::proofs::PrintLemmas::lawful))]
 fn put_items(alloc: Global, nodes: &[Node], out: &mut Vec<u8>) -> Result<(), NoMemory>
-    ensures { OnOk result (out.new.items ≡ out.old.items ++ items (map print nodes.now)) }
+    ensures text { OnOk result (out.new.items ≡ out.old.items ++ items (map print nodes.now)) }
+    ensures lawful { OnOk result (IsTrue (list_all is_lawful nodes.now)) }
 {
     for (i, node) in nodes.iter().enumerate() {
         put_item(alloc, i == 0, &node.body, out)?;
@@ -167,9 +175,10 @@ fn put_items(alloc: Global, nodes: &[Node], out: &mut Vec<u8>) -> Result<(), NoM
 }
 
 #[cycle(printing)]
-#[tactic(auto, using(crate::proofs::PrintLemmas::printings))]
+#[tactic(auto, using(crate::proofs::PrintLemmas::printings, crate::proofs::PrintLemmas::lawful))]
 fn put_item(alloc: Global, first: bool, body: &Body, out: &mut Vec<u8>) -> Result<(), NoMemory>
-    ensures { OnOk result (out.new.items ≡ out.old.items ++ item first (print_body body.now)) }
+    ensures text { OnOk result (out.new.items ≡ out.old.items ++ item first (print_body body.now)) }
+    ensures lawful { OnOk result (IsTrue (is_lawful_body body.now)) }
 {
     if !first {
         out.extend_from_slice(&[b' ', b';'])?;
@@ -182,8 +191,13 @@ fn put_item(alloc: Global, first: bool, body: &Body, out: &mut Vec<u8>) -> Resul
 pub fn print_node(alloc: Global, n: &Node) -> Result<Vec<u8>, NoMemory>
     // By the rules of printing.
     ensures text { IfOk result (λ v. v.items ≡ printed n.now) }
+    // Its numbers, texts and byte literals are some, since the program holds them.
+    ensures lawful { IfOk result (λ v. IsTrue (is_lawful n.now)) }
+    // It is bytes from blank to tilde, where the names and annotations are the grammar's.
+    ensures plain { IfOk result (λ v. IsTrue (is_well_named n.now) → IsTrue (list_all is_plain v.items)) }
     // It is a text of the grammar, of the same node up to places, so it is read again as that.
-    ensures again { IfOk result (λ v. IsPrintable n.now → IsTextOfOne v.items n.now) }
+    ensures again { IfOk result (λ v.
+        IsTrue (is_well_named n.now) → brackets n.now ≤ 256 → IsTextOfOne v.items n.now) }
 {
     let mut out = Vec::new(alloc);
     put_body(alloc, &n.body, &mut out)?;

@@ -1,12 +1,14 @@
 //! Bytes to nodes, token by token.
 
-ghost use Rattle.std.specs.Prelude.{◌≡◌, ◌≤◌, ◌<◌, ◌^◌, ◌∷◌, [], length, drop, IfErr, IfOk, IfSome, List, MatchOption, Ok};
+ghost use Rattle.std.specs.Prelude.{◌≡◌, ◌⊎◌, ◌≤◌, ◌<◌, ◌^◌, ◌∷◌, [], length, drop, IfErr, IfOk, IfSome, List, MatchOption, Ok};
 ghost use Rattle.micheline_text.specs.declared.node.Node.{Node};
-ghost use Rattle.micheline_text.specs.Faults.{IsFault};
+ghost use Rattle.micheline_text.specs.Faults.{IsFaultOf};
+ghost use Rattle.micheline_text.specs.declared.fault.TextFault.TheVariants.{NoMemory};
 ghost use Rattle.micheline_text.specs.Text.{IsTextOf};
 ghost use Rattle.micheline_text.specs.Fault.{Gives};
 ghost use Rattle.micheline_text.specs.Lexing.{tokens_of};
-ghost use Rattle.micheline_text.specs.Reading.{close_brace, close_paren, finish, first_open, node_at, opened, reading, step, taken, within};
+ghost use Rattle.micheline_text.specs.Reading.{close_brace, close_paren, finish, first_open, opened, reading, step, taken, within};
+ghost use Rattle.micheline_text.specs.Grammar.{node_at};
 
 use crate::NoMemory;
 use crate::fault::TextFault;
@@ -203,7 +205,7 @@ pub fn read_nodes(alloc: Global, b: &[u8]) -> Result<Items<Node>, TextFault>
     // What is a text of the grammar is read, unless memory runs out.
     ensures only { (ns : List Node) → IsTextOf b.now ns → Gives (λ x. x) result (Ok ns) }
     // A fault is the first one: up to it a text of the grammar goes on, and with it none does.
-    ensures fault { IfErr result (IsFault (tokens_of 0 b.now)) }
+    ensures fault { IfErr result (λ f. (f ≡ NoMemory) ⊎ IsFaultOf b.now f) }
 {
     read(alloc, b)
 }

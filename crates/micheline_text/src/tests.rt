@@ -1,6 +1,6 @@
 //! Texts with the answers that the grammar gives them, and what no clause says.
 
-use crate::{NoMemory, TextFault, print_node, read_nodes};
+use crate::{NoMemory, TextFault, brackets_within, print_node, read_nodes};
 use std::alloc::{AllocError, Global};
 use std::test::Fail;
 
@@ -65,9 +65,59 @@ fn a_copy_is_the_same_and_another_place_is_not(rt: HostRuntime) -> Result<(), Fa
             assert_eq!(rt; again.len(), 1);
             let first = &nodes.as_slice()[0];
             assert!(rt; first.same(&first.copy(rt.alloc())?));
+            assert!(rt; first.body.same(&first.body.copy(rt.alloc())?));
             assert!(rt; !first.same(&again.as_slice()[0]));
+            assert!(rt; brackets_within(first, 1));
+            assert!(rt; !brackets_within(first, 0));
         }
         _ => assert!(rt; false),
     }
+    Ok(())
+}
+
+/// Whether the bytes are read as one node, and printed as they are.
+fn is_printed_again(alloc: Global, text: &Vec<u8>) -> Result<bool, NoMemory> {
+    let bytes = text.as_slice();
+    if bytes.len() > 1_000_000 {
+        return Err(AllocError);
+    }
+    match read_nodes(alloc, bytes) {
+        Ok(nodes) if nodes.len() == 1 => {
+            Ok(print_node(alloc, &nodes.as_slice()[0])?.as_slice() == bytes)
+        }
+        Ok(_) | Err(_) => Ok(false),
+    }
+}
+
+/// A string of so many letters.
+fn letters(alloc: Global, n: u32) -> Result<Vec<u8>, NoMemory> {
+    let mut text = Vec::new(alloc);
+    text.push(b'"')?;
+    for _ in 0..n {
+        text.push(b'a')?;
+    }
+    text.push(b'"')?;
+    Ok(text)
+}
+
+/// So many sequences in one another, and one in them all.
+fn sequences(alloc: Global, n: u32) -> Result<Vec<u8>, NoMemory> {
+    let mut text = Vec::new(alloc);
+    for _ in 0..n {
+        text.extend_from_slice(b"{ ")?;
+    }
+    text.extend_from_slice(b"{}")?;
+    for _ in 0..n {
+        text.extend_from_slice(b" }")?;
+    }
+    Ok(text)
+}
+
+#[test]
+fn the_longest_string_and_the_deepest_brackets_are_read(rt: HostRuntime) -> Result<(), Fail> {
+    assert!(rt; is_printed_again(rt.alloc(), &letters(rt.alloc(), 131_071)?)?);
+    assert!(rt; !is_printed_again(rt.alloc(), &letters(rt.alloc(), 131_072)?)?);
+    assert!(rt; is_printed_again(rt.alloc(), &sequences(rt.alloc(), 255)?)?);
+    assert!(rt; !is_printed_again(rt.alloc(), &sequences(rt.alloc(), 256)?)?);
     Ok(())
 }

@@ -61,6 +61,10 @@ fn quoted(alloc: Global, bytes: &[u8]) -> Result<(Vec<u8>, usize, Ending), NoMem
             Part::Wrong => return Ok((text, i, Ending::Wrong)),
         }
     }
+    // A string that ends behind a `\` says one byte more, whatever it is.
+    if escaped {
+        text.push(b'\n')?;
+    }
     Ok((text, bytes.len(), Ending::Open))
 }
 

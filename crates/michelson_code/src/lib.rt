@@ -5,23 +5,26 @@
 //! forms. A code is a list of instructions, and a body or a branch is a code inside one of them.
 //! Contracts see all of them as plain trees and lists without pointers.
 //!
+//! - `laws`: what is true of all this, as clauses.
 //! - `instr`: the forms, in the order of their table. Begin here.
-//! - `table`: the place of each form in the table, and its cost. `specs/Table.antt` is the table.
+//! - `table`: the table of forms, a line for each: its word, its cost, whether it takes the name of
+//!   an entry, and its operands. `specs/Forms.antt` is the table as a definition.
 //! - `weighing`: the sum of all costs of a code, and how many instructions it has.
 //! - `copying`, `sameness`: equal instructions, and whether two are equal.
-//! - `arguments`: what stands behind an instruction's name, whichever the form is.
 //! - `script`: a contract's types, the names of its entries, and its code.
+//! - `entries`: the part of a parameter at a way through `or` alone.
 //! - `why`: the causes for which an operation fails.
 //!
-//! A definition over all instructions is said once for one level, by the form's line in the
-//! table and by what the form is written with (`specs/Written.antt`): the two determine the
-//! instruction. Every public call equals its definition in `specs/`, and only copies take
-//! memory. Recursion goes as deep as bodies are nested, and never as far as a code is long.
+//! What is said of all instructions is said once, of a line of the table: a word, the name of an
+//! entry and operands determine the instruction. Every public call equals its definition in
+//! `specs/`, and only copies take memory. Recursion goes as deep as bodies are nested, and never
+//! as far as a code is long.
 #![tactic(auto)]
 
-mod arguments;
 mod copying;
+mod entries;
 mod instr;
+mod laws;
 mod sameness;
 mod script;
 mod table;
@@ -31,9 +34,14 @@ mod weighing;
 mod why;
 
 pub use copying::copy_code;
+pub use entries::type_at;
 pub use instr::{Code, Instr};
+pub use laws::{
+    a_wrapped_param_has_the_type_of_the_whole, an_instruction_weighs_and_counts_its_bodies,
+    codes_one_after_another_add_up, instructions_that_are_written_alike_are_equal,
+};
 pub use sameness::same_code;
 pub use script::{Script, Side};
-pub use table::cost;
+pub use table::{Form, Operand, Operands, cost, form_of};
 pub use weighing::{count, weight};
 pub use why::Why;

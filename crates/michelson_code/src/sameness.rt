@@ -1,13 +1,10 @@
 //! Whether two instructions, or two codes, are equal.
 
-ghost use Rattle.std.specs.Prelude.{◌≡◌, ◌↔◌, IsTrue, []};
-ghost use Rattle.std.specs.Option.{option_copied};
-ghost use Rattle.michelson_code.specs.Written.{AreAlike, HaveSameBodies};
+ghost use Rattle.std.specs.Prelude.{◌≡◌, ◌↔◌, IsTrue};
+ghost use Rattle.michelson_code.specs.Shown.{HaveSameWord, operand_shown, operands_shown, shown};
 
-use crate::arguments::arguments_of;
 use crate::instr::Instr;
-use crate::table::line_of;
-use value_core::{Ty, Val};
+use crate::table::{Form, Operand, Operands, form_of};
 
 impl Instr {
     /// Whether the instructions are equal.
@@ -15,7 +12,9 @@ impl Instr {
     pub fn same(&self, other: &Instr) -> bool
         ensures { IsTrue result ↔ (self.now ≡ other.now) }
     {
-        are_alike(self, other) && have_same_bodies(self, other)
+        let a = form_of(self);
+        let b = form_of(other);
+        have_same_word(&a, &b) && same_operands(a.operands, b.operands)
     }
 }
 
@@ -35,59 +34,43 @@ pub fn same_code(a: &[Instr], b: &[Instr]) -> bool
     true
 }
 
+/// Whether the words are equal, and the names of entries are.
+fn have_same_word(a: &Form<'_>, b: &Form<'_>) -> bool
+    ensures { IsTrue result ↔ HaveSameWord (shown a.now) (shown b.now) }
+{
+    a.word == b.word && a.entry == b.entry
+}
+
 #[cycle(sameness)]
-fn have_same_bodies(a: &Instr, b: &Instr) -> bool
-    ensures { IsTrue result ↔ HaveSameBodies a.now b.now }
-{
-    let other = arguments_of(b);
-    match a {
-        Instr::Dip(c)
-        | Instr::DipN(_, c)
-        | Instr::Loop(c)
-        | Instr::LoopLeft(c)
-        | Instr::Iter(c)
-        | Instr::Map(c) => same_code(c.as_slice(), other.first_body) && is_empty(other.second_body),
-        Instr::If(c, d) | Instr::IfNone(c, d) | Instr::IfLeft(c, d) | Instr::IfCons(c, d) => {
-            same_code(c.as_slice(), other.first_body) && same_code(d.as_slice(), other.second_body)
-        }
-        _ => is_empty(other.first_body) && is_empty(other.second_body),
-    }
-}
-
-fn is_empty(code: &[Instr]) -> bool
-    ensures { IsTrue result ↔ ([] ≡ code.now) }
-{
-    code.is_empty()
-}
-
-fn are_alike(a: &Instr, b: &Instr) -> bool
-    ensures { IsTrue result ↔ AreAlike a.now b.now }
-{
-    let (x, y) = (arguments_of(a), arguments_of(b));
-    line_of(a).form == line_of(b).form
-        && x.number == y.number
-        && same_type(x.first_type, y.first_type)
-        && same_type(x.second_type, y.second_type)
-        && same_value(x.pushed, y.pushed)
-        && x.entry == y.entry
-}
-
-fn same_type(a: Option<&Ty>, b: Option<&Ty>) -> bool
-    ensures { IsTrue result ↔ (option_copied a.entry ≡ option_copied b.entry) }
+fn same_operands(a: Operands<'_>, b: Operands<'_>) -> bool
+    ensures { IsTrue result ↔ (operands_shown a.entry ≡ operands_shown b.entry) }
 {
     match (a, b) {
-        (Some(s), Some(t)) => s.same(t),
-        (None, None) => true,
+        (Operands::None, Operands::None) => true,
+        (Operands::One(x), Operands::One(y)) => same_operand(x, y),
+        (Operands::Two(w, x), Operands::Two(y, z)) => same_operand(w, y) && same_operand(x, z),
         _ => false,
     }
 }
 
-fn same_value(a: Option<&Val>, b: Option<&Val>) -> bool
-    ensures { IsTrue result ↔ (option_copied a.entry ≡ option_copied b.entry) }
+#[cycle(sameness)]
+fn same_operand(a: Operand<'_>, b: Operand<'_>) -> bool
+    ensures { IsTrue result ↔ (operand_shown a.entry ≡ operand_shown b.entry) }
 {
     match (a, b) {
-        (Some(v), Some(w)) => v.same(w),
-        (None, None) => true,
+        (
+            Operand::Number {
+                least: x,
+                number: m,
+            },
+            Operand::Number {
+                least: y,
+                number: n,
+            },
+        ) => { x == y && m == n }
+        (Operand::Type(s), Operand::Type(t)) => s.same(t),
+        (Operand::Data(s, v), Operand::Data(t, w)) => s.same(t) && v.same(w),
+        (Operand::Code(c), Operand::Code(d)) => same_code(c, d),
         _ => false,
     }
 }

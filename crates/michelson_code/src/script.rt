@@ -12,7 +12,9 @@ use value_core::{Name, NoMemory, Ty};
 /// A step from an `or` of the parameter's type to one of its two parts.
 #[derive(Clone, Copy, Debug, PartialEq, Eq)]
 pub enum Side {
+    /// To the left of an `or`.
     Left,
+    /// To its right.
     Right,
 }
 
@@ -20,9 +22,13 @@ pub enum Side {
 /// and the name that stands there.
 #[derive(Debug, Drop)]
 pub struct Script {
+    /// What a call gives.
     pub param: Ty,
+    /// The names of entries, in the order of the text, each with its way from the root of the parameter.
     pub names: Items<(Items<Side>, Name)>,
+    /// What the contract keeps.
     pub storage: Ty,
+    /// From a pair of parameter and storage to operations and the new storage.
     pub code: Code,
 }
 

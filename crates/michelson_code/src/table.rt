@@ -1,111 +1,191 @@
-//! The table of forms: the place of each in it, and its cost.
+//! The table of forms: how each instruction is written, and what it costs.
 
-ghost use Rattle.std.specs.Prelude.{◌≡◌};
-ghost use Rattle.michelson_code.specs.Table.{cost_of, in_table, line_of};
+ghost use Rattle.std.specs.Prelude.{◌≡◌, ◌∷◌, []};
+ghost use Rattle.michelson_code.specs.Forms.{ACode, ANumber, cost_of, entered, form, form_of};
+ghost use Rattle.michelson_code.specs.Shown.{operand_shown, operands_shown, shown};
 
-use crate::instr::Instr;
+use crate::instr::{Code, Instr};
+use value_core::{Name, Ty, Val};
 
-/// A line of the table of forms.
-#[derive(Clone, Copy, Debug)]
-pub(crate) struct Line {
-    /// The place of the form, counted from 0.
-    pub(crate) form: u8,
-    pub(crate) cost: u64,
+/// What stands behind a word.
+#[derive(Clone, Copy)]
+pub enum Operand<'a> {
+    /// A number that isn't below the least.
+    Number { least: u32, number: u32 },
+    Type(&'a Ty),
+    /// Data of a type.
+    Data(&'a Ty, &'a Val),
+    /// Instructions in braces.
+    Code(&'a [Instr]),
 }
 
-fn in_table(form: u8, cost: u64) -> Line
-    ensures { result ≡ in_table form cost }
-{
-    Line { form, cost }
+/// The operands of a form, from the left.
+#[derive(Clone, Copy)]
+pub enum Operands<'a> {
+    None,
+    One(Operand<'a>),
+    Two(Operand<'a>, Operand<'a>),
+}
+
+/// A line of the table of forms.
+#[derive(Clone, Copy)]
+pub struct Form<'a> {
+    pub word: &'static str,
+    /// The gas, without that of bodies.
+    pub cost: u64,
+    /// The name of an entry or none, where the word takes one.
+    pub entry: Option<Option<Name>>,
+    pub operands: Operands<'a>,
 }
 
 /// The gas that an instruction costs, without its bodies.
 pub fn cost(instr: &Instr) -> u64
     ensures { result ≡ cost_of instr.now }
 {
-    line_of(instr).cost
+    form_of(instr).cost
 }
 
-/// The line of an instruction's form.
-pub(crate) fn line_of(instr: &Instr) -> Line
-    ensures { result ≡ line_of instr.now }
+/// The form of an instruction.
+pub fn form_of(instr: &Instr) -> Form<'_>
+    ensures { shown result ≡ form_of instr.now }
 {
     match instr {
-        Instr::Drop => in_table(0, 1),
-        Instr::DropN(_) => in_table(1, 1),
-        Instr::Dup => in_table(2, 1),
-        Instr::DupN(_) => in_table(3, 1),
-        Instr::Swap => in_table(4, 1),
-        Instr::Dig(_) => in_table(5, 1),
-        Instr::Dug(_) => in_table(6, 1),
-        Instr::Unit => in_table(7, 1),
-        Instr::Pair => in_table(8, 1),
-        Instr::PairN(_) => in_table(9, 1),
-        Instr::Unpair => in_table(10, 1),
-        Instr::UnpairN(_) => in_table(11, 1),
-        Instr::Car => in_table(12, 1),
-        Instr::Cdr => in_table(13, 1),
-        Instr::Some => in_table(14, 1),
-        Instr::None(_) => in_table(15, 1),
-        Instr::Left(_) => in_table(16, 1),
-        Instr::Right(_) => in_table(17, 1),
-        Instr::Nil(_) => in_table(18, 1),
-        Instr::Cons => in_table(19, 1),
-        Instr::Cast(_) => in_table(20, 1),
-        Instr::Rename => in_table(21, 1),
-        Instr::Push(_, _) => in_table(22, 2),
-        Instr::Dip(_) => in_table(23, 2),
-        Instr::DipN(_, _) => in_table(24, 2),
-        Instr::If(_, _) => in_table(25, 2),
-        Instr::IfNone(_, _) => in_table(26, 2),
-        Instr::IfLeft(_, _) => in_table(27, 2),
-        Instr::IfCons(_, _) => in_table(28, 2),
-        Instr::Loop(_) => in_table(29, 2),
-        Instr::LoopLeft(_) => in_table(30, 2),
-        Instr::Iter(_) => in_table(31, 2),
-        Instr::Map(_) => in_table(32, 2),
-        Instr::EmptySet(_) => in_table(33, 2),
-        Instr::EmptyMap(_, _) => in_table(34, 2),
-        Instr::Failwith => in_table(35, 2),
-        Instr::Add => in_table(36, 3),
-        Instr::Sub => in_table(37, 3),
-        Instr::SubMutez => in_table(38, 3),
-        Instr::Neg => in_table(39, 3),
-        Instr::Abs => in_table(40, 3),
-        Instr::IsNat => in_table(41, 3),
-        Instr::Int => in_table(42, 3),
-        Instr::Lsl => in_table(43, 3),
-        Instr::Lsr => in_table(44, 3),
-        Instr::And => in_table(45, 3),
-        Instr::Or => in_table(46, 3),
-        Instr::Xor => in_table(47, 3),
-        Instr::Not => in_table(48, 3),
-        Instr::Eq => in_table(49, 3),
-        Instr::Neq => in_table(50, 3),
-        Instr::Lt => in_table(51, 3),
-        Instr::Gt => in_table(52, 3),
-        Instr::Le => in_table(53, 3),
-        Instr::Ge => in_table(54, 3),
-        Instr::Size => in_table(55, 3),
-        Instr::Amount => in_table(56, 3),
-        Instr::Sender => in_table(57, 3),
-        Instr::Source => in_table(58, 3),
-        Instr::SelfAddress => in_table(59, 3),
-        Instr::Now => in_table(60, 3),
-        Instr::Level => in_table(61, 3),
-        Instr::SelfEntry(_) => in_table(62, 3),
-        Instr::Address => in_table(63, 3),
-        Instr::Compare => in_table(64, 5),
-        Instr::Mul => in_table(65, 5),
-        Instr::Ediv => in_table(66, 5),
-        Instr::Concat => in_table(67, 5),
-        Instr::Mem => in_table(68, 10),
-        Instr::Get => in_table(69, 10),
-        Instr::Update => in_table(70, 10),
-        Instr::GetAndUpdate => in_table(71, 10),
-        Instr::Sha256 => in_table(72, 10),
-        Instr::Balance => in_table(73, 10),
-        Instr::Contract(_, _) => in_table(74, 10),
-        Instr::TransferTokens => in_table(75, 10),
+        Instr::Drop => plain("DROP", 1),
+        Instr::DropN(n) => with_one("DROP", 1, number(0, *n)),
+        Instr::Dup => plain("DUP", 1),
+        Instr::DupN(n) => with_one("DUP", 1, number(1, *n)),
+        Instr::Swap => plain("SWAP", 1),
+        Instr::Dig(n) => with_one("DIG", 1, number(0, *n)),
+        Instr::Dug(n) => with_one("DUG", 1, number(0, *n)),
+        Instr::Unit => plain("UNIT", 1),
+        Instr::Pair => plain("PAIR", 1),
+        Instr::PairN(n) => with_one("PAIR", 1, number(2, *n)),
+        Instr::Unpair => plain("UNPAIR", 1),
+        Instr::UnpairN(n) => with_one("UNPAIR", 1, number(2, *n)),
+        Instr::Car => plain("CAR", 1),
+        Instr::Cdr => plain("CDR", 1),
+        Instr::Some => plain("SOME", 1),
+        Instr::None(t) => with_one("NONE", 1, Operand::Type(t)),
+        Instr::Left(t) => with_one("LEFT", 1, Operand::Type(t)),
+        Instr::Right(t) => with_one("RIGHT", 1, Operand::Type(t)),
+        Instr::Nil(t) => with_one("NIL", 1, Operand::Type(t)),
+        Instr::Cons => plain("CONS", 1),
+        Instr::Cast(t) => with_one("CAST", 1, Operand::Type(t)),
+        Instr::Rename => plain("RENAME", 1),
+        Instr::Push(t, v) => with_two("PUSH", 2, Operand::Type(t), Operand::Data(t, v)),
+        Instr::Dip(c) => with_one("DIP", 2, body(c)),
+        Instr::DipN(n, c) => with_two("DIP", 2, number(0, *n), body(c)),
+        Instr::If(c, d) => with_two("IF", 2, body(c), body(d)),
+        Instr::IfNone(c, d) => with_two("IF_NONE", 2, body(c), body(d)),
+        Instr::IfLeft(c, d) => with_two("IF_LEFT", 2, body(c), body(d)),
+        Instr::IfCons(c, d) => with_two("IF_CONS", 2, body(c), body(d)),
+        Instr::Loop(c) => with_one("LOOP", 2, body(c)),
+        Instr::LoopLeft(c) => with_one("LOOP_LEFT", 2, body(c)),
+        Instr::Iter(c) => with_one("ITER", 2, body(c)),
+        Instr::Map(c) => with_one("MAP", 2, body(c)),
+        Instr::EmptySet(t) => with_one("EMPTY_SET", 2, Operand::Type(t)),
+        Instr::EmptyMap(k, v) => with_two("EMPTY_MAP", 2, Operand::Type(k), Operand::Type(v)),
+        Instr::Failwith => plain("FAILWITH", 2),
+        Instr::Add => plain("ADD", 3),
+        Instr::Sub => plain("SUB", 3),
+        Instr::SubMutez => plain("SUB_MUTEZ", 3),
+        Instr::Neg => plain("NEG", 3),
+        Instr::Abs => plain("ABS", 3),
+        Instr::IsNat => plain("ISNAT", 3),
+        Instr::Int => plain("INT", 3),
+        Instr::Lsl => plain("LSL", 3),
+        Instr::Lsr => plain("LSR", 3),
+        Instr::And => plain("AND", 3),
+        Instr::Or => plain("OR", 3),
+        Instr::Xor => plain("XOR", 3),
+        Instr::Not => plain("NOT", 3),
+        Instr::Eq => plain("EQ", 3),
+        Instr::Neq => plain("NEQ", 3),
+        Instr::Lt => plain("LT", 3),
+        Instr::Gt => plain("GT", 3),
+        Instr::Le => plain("LE", 3),
+        Instr::Ge => plain("GE", 3),
+        Instr::Size => plain("SIZE", 3),
+        Instr::Amount => plain("AMOUNT", 3),
+        Instr::Sender => plain("SENDER", 3),
+        Instr::Source => plain("SOURCE", 3),
+        Instr::SelfAddress => plain("SELF_ADDRESS", 3),
+        Instr::Now => plain("NOW", 3),
+        Instr::Level => plain("LEVEL", 3),
+        Instr::SelfEntry(e) => entered("SELF", 3, *e, Operands::None),
+        Instr::Address => plain("ADDRESS", 3),
+        Instr::Compare => plain("COMPARE", 5),
+        Instr::Mul => plain("MUL", 5),
+        Instr::Ediv => plain("EDIV", 5),
+        Instr::Concat => plain("CONCAT", 5),
+        Instr::Mem => plain("MEM", 10),
+        Instr::Get => plain("GET", 10),
+        Instr::Update => plain("UPDATE", 10),
+        Instr::GetAndUpdate => plain("GET_AND_UPDATE", 10),
+        Instr::Sha256 => plain("SHA256", 10),
+        Instr::Balance => plain("BALANCE", 10),
+        Instr::Contract(e, t) => entered("CONTRACT", 10, *e, Operands::One(Operand::Type(t))),
+        Instr::TransferTokens => plain("TRANSFER_TOKENS", 10),
     }
+}
+
+fn plain<'a>(word: &'static str, cost: u64) -> Form<'a>
+    ensures { shown result ≡ form word.now cost [] }
+{
+    Form {
+        word,
+        cost,
+        entry: None,
+        operands: Operands::None,
+    }
+}
+
+fn with_one<'a>(word: &'static str, cost: u64, operand: Operand<'a>) -> Form<'a>
+    ensures { shown result ≡ form word.now cost (operand_shown operand.entry ∷ []) }
+{
+    Form {
+        word,
+        cost,
+        entry: None,
+        operands: Operands::One(operand),
+    }
+}
+
+fn with_two<'a>(word: &'static str, cost: u64, first: Operand<'a>, second: Operand<'a>) -> Form<'a>
+    ensures { shown result ≡ form word.now cost (operand_shown first.entry ∷ operand_shown second.entry ∷ []) }
+{
+    Form {
+        word,
+        cost,
+        entry: None,
+        operands: Operands::Two(first, second),
+    }
+}
+
+fn entered<'a>(
+    word: &'static str,
+    cost: u64,
+    entry: Option<Name>,
+    operands: Operands<'a>,
+) -> Form<'a>
+    ensures { shown result ≡ entered word.now cost entry (operands_shown operands.entry) }
+{
+    Form {
+        word,
+        cost,
+        entry: Some(entry),
+        operands,
+    }
+}
+
+fn number<'a>(least: u32, number: u32) -> Operand<'a>
+    ensures { operand_shown result ≡ ANumber least number }
+{
+    Operand::Number { least, number }
+}
+
+fn body<'a>(code: &'a Code) -> Operand<'a>
+    ensures { operand_shown result ≡ ACode code.now }
+{
+    Operand::Code(code.as_slice())
 }

@@ -10,10 +10,9 @@ use Rattle.michelson_code.specs.declared.instr.Instr.{Instr}
 use Rattle.data_nodes.specs.Nodes.{Test}
 use Rattle.michelson_reader.specs.Code.{is_instruction}
 use Rattle.michelson_reader.specs.CodeFaults.{Reader, body_of, code_at, code_read, instruction_at, instruction_read, reader, reader_at}
-use Rattle.michelson_reader.specs.Forms.{Form}
-use Rattle.michelson_reader.proofs.FormLevels.{form_map}
+use Rattle.michelson_code.specs.Forms.{Form, form_of}
+use Rattle.michelson_code.specs.Levels.{form_map}
 use Rattle.michelson_reader.proofs.NodeInduction.{Each, induction, parts_of, roll-out}
-use Rattle.michelson_reader.proofs.WordLaws.{form_of}
 
 -- ---- what is read of a node
 

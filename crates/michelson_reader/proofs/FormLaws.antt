@@ -14,25 +14,22 @@ use Rattle.michelson_code.specs.declared.instr.Instr.TheVariants as instr
 use Rattle.michelson_code.specs.declared.instr.Instr.TheVariants.{rolls-Push}
 use Rattle.michelson_code.specs.declared.instr.Instr.TheOpen as of
 use Rattle.michelson_code.specs.declared.instr.Instr.TheOpen.{Instr-F}
-use Rattle.michelson_code.specs.declared.instr.Instr.TheViews.{out-Instr, roll-Instr, the_lemmas}
+use Rattle.michelson_code.specs.declared.instr.Instr.TheViews.{out-Instr, roll-Instr, roll-out-Instr}
 use Rattle.data_nodes.specs.Data.{IsData}
 use Rattle.data_nodes.specs.Faults.{data_read}
 use Rattle.data_nodes.specs.Nodes.{all_are}
 use Rattle.michelson_reader.specs.Code.{is_code, is_entry, is_form_body, is_instruction, is_operand}
 use Rattle.michelson_reader.specs.CodeFaults.{applied, code_read, entry, instruction_read, number, pushed, reader}
-use Rattle.michelson_reader.specs.Forms.{Form, Operand, ANumber, AType, SomeData, ACode, entered, form, form_at}
+use Rattle.michelson_code.specs.Forms.{Form, Operand, ANumber, AType, SomeData, ACode, form_at, form_of}
+use Rattle.michelson_code.specs.Levels.{form_map, operand_map}
 use Rattle.michelson_reader.specs.TypeFaults.{then_read, type_read}
 use Rattle.michelson_reader.specs.Types.{is_type}
 use Rattle.michelson_reader.proofs.CodeLevels.{same_node, test_of}
-use Rattle.michelson_reader.proofs.FormLevels.{form_map, operand_map}
 use Rattle.michelson_reader.proofs.NodeInduction.{Each}
 use Rattle.michelson_reader.proofs.OperandLaws.{entry-read, number-read, pushed-read}
 use Rattle.michelson_reader.proofs.ReadLemmas.{no_form-fails, read_both, read_first}
-use Rattle.michelson_reader.proofs.WordLaws.{alone_of, one_of, two_of, Alone, Plain, AnEntry, NotAlone, AloneForms, One, WithNumber, WithType, WithBody, WithEntry, NotWithOne, OneForms, Two, WithData, WithTypes, WithNumberAndBody, WithBodies, NotWithTwo, TwoForms, form_of, alone_forms, one_forms, two_forms, made_alone, made_of_one, made_of_two, made_of, IsMadeOrPushed, each_is_made}
+use Rattle.michelson_reader.proofs.WordLaws.{alone_of, one_of, two_of, Alone, Plain, AnEntry, NotAlone, AloneForms, One, WithNumber, WithType, WithBody, WithEntry, NotWithOne, OneForms, Two, WithData, WithTypes, WithNumberAndBody, WithBodies, NotWithTwo, TwoForms, entering, formed, alone_forms, one_forms, two_forms, made_alone, made_of_one, made_of_two, made_of, IsMadeOrPushed, each_is_made}
 use Rattle.michelson_reader.proofs.WordReads.{read_alone, read_one, read_two, alone-is, one-is, two-is}
-
-roll-out : (i : Instr) → roll-Instr (out-Instr i) ≡ i
-roll-out i = search (rules, the_lemmas)
 
 -- ---- what is written for an instruction
 
@@ -48,10 +45,10 @@ abbrev pub IsWritten : List ℕ → List (List ℕ) → List Node → Instr → 
 IsWritten name notes args i = is_form_body (test_of i) (one.Prim name notes args) ≡ true
 
 written : (name : List ℕ) (notes : List (List ℕ)) (args : List Node) (i : Instr) (f : Form Instr) →
-    form_of i ≡ f → name ≡ f.name → is_entry f.entry notes ≡ true → IsBehind f.operands args → IsWritten name notes args i
+    form_of i ≡ f → name ≡ f.word → is_entry f.entry notes ≡ true → IsBehind f.operands args → IsWritten name notes args i
 written name notes args i f is same fit behind =
     ap (λ (g : Form Instr). is_form_body (form_map is_instruction g) (one.Prim name notes args)) is
-    ∙ and_from _ _ (and_from _ _ ((bytes_eq-Decides name f.name).1 same) fit) behind
+    ∙ and_from _ _ (and_from _ _ ((bytes_eq-Decides name f.word).1 same) fit) behind
 
 behind_one : (o : Operand Instr) (x : Node) → Is o x → IsBehind (o ∷ []) (x ∷ [])
 behind_one o x is = and_from _ _ is refl
@@ -90,11 +87,11 @@ module _
         read_alone at name notes k ≡ Ok i → IsWritten name notes [] i
     alone_written at name notes i (Plain j) forms h =
         let same : j ≡ i = cc in
-        written name notes [] i (form name []) (ap form_of (sym same) ∙ forms) refl refl refl
+        written name notes [] i (formed j name []) (ap form_of (sym same) ∙ forms) refl refl refl
     alone_written at name notes i AnEntry forms h =
         let e = read_first (λ e. Ok (instr.SelfEntry e)) (entry at notes) i h in
         let same : instr.SelfEntry e.0 ≡ i = cc in
-        written name notes [] i (entered name e.0 []) (ap form_of (sym same) ∙ forms e.0) refl ((entry-read at e.0 notes).0 e.1) refl
+        written name notes [] i (entering (instr.SelfEntry e.0) name e.0 []) (ap form_of (sym same) ∙ forms e.0) refl ((entry-read at e.0 notes).0 e.1) refl
     alone_written at name notes i NotAlone forms h = absurd (no_form-fails at name i h)
 
     one_written : (at : ℕ) (name : List ℕ) (notes : List (List ℕ)) (x : Node) (i : Instr) (k : One) → CodeLaw x → OneForms name k →
@@ -102,23 +99,23 @@ module _
     one_written at name notes x i (WithNumber least make) law forms h =
         let n = read_first (λ n. Ok (make n)) (number at least (reader x).node) i h in
         let same : make n.0 ≡ i = cc in
-        written name notes (x ∷ []) i (form name (ANumber least n.0 ∷ [])) (ap form_of (sym same) ∙ forms n.0) refl refl
+        written name notes (x ∷ []) i (formed (make n.0) name (ANumber least n.0 ∷ [])) (ap form_of (sym same) ∙ forms n.0) refl refl
         (behind_one (ANumber least n.0) x ((number_law at least n.0 x).0 n.1))
     one_written at name notes x i (WithType make) law forms h =
         let t = read_first (λ t. Ok (make t)) (type_read (reader x).node) i h in
         let same : make t.0 ≡ i = cc in
-        written name notes (x ∷ []) i (form name (AType t.0 ∷ [])) (ap form_of (sym same) ∙ forms t.0) refl refl
+        written name notes (x ∷ []) i (formed (make t.0) name (AType t.0 ∷ [])) (ap form_of (sym same) ∙ forms t.0) refl refl
         (behind_one (AType t.0) x ((type_law t.0 x).0 t.1))
     one_written at name notes x i (WithBody make) law forms h =
         let c = read_first (λ c. Ok (make c)) (reader x).code i h in
         let same : make c.0 ≡ i = cc in
-        written name notes (x ∷ []) i (form name (ACode c.0 ∷ [])) (ap form_of (sym same) ∙ forms c.0) refl refl
+        written name notes (x ∷ []) i (formed (make c.0) name (ACode c.0 ∷ [])) (ap form_of (sym same) ∙ forms c.0) refl refl
         (behind_one (ACode c.0) x ((code_law c.0 x law).0 c.1))
     one_written at name notes x i WithEntry law forms h =
         let e = read_first (λ e. then_read (type_read (reader x).node) (λ t. Ok (instr.Contract e t))) (entry at notes) i h in
         let t = read_first (λ t. Ok (instr.Contract e.0 t)) (type_read (reader x).node) i e.2 in
         let same : instr.Contract e.0 t.0 ≡ i = cc in
-        written name notes (x ∷ []) i (entered name e.0 (AType t.0 ∷ [])) (ap form_of (sym same) ∙ forms e.0 t.0) refl
+        written name notes (x ∷ []) i (entering (instr.Contract e.0 t.0) name e.0 (AType t.0 ∷ [])) (ap form_of (sym same) ∙ forms e.0 t.0) refl
         ((entry-read at e.0 notes).0 e.1) (behind_one (AType t.0) x ((type_law t.0 x).0 t.1))
     one_written at name notes x i NotWithOne law forms h = absurd (no_form-fails at name i h)
 
@@ -128,25 +125,25 @@ module _
         let t = read_first (λ t. then_read (pushed t (reader y).node) (λ v. Ok (instr.Push t v))) (type_read (reader x).node) i h in
         let v = read_first (λ v. Ok (instr.Push t.0 v)) (pushed t.0 (reader y).node) i t.2 in
         let same : instr.Push t.0 v.0 ≡ i = cc in
-        written name notes (x ∷ y ∷ []) i (form name (AType t.0 ∷ SomeData t.0 v.0 ∷ [])) (ap form_of (sym same) ∙ forms t.0 v.0) refl refl
+        written name notes (x ∷ y ∷ []) i (formed (instr.Push t.0 v.0) name (AType t.0 ∷ SomeData t.0 v.0 ∷ [])) (ap form_of (sym same) ∙ forms t.0 v.0) refl refl
         (behind_two (AType t.0) (SomeData t.0 v.0) x y ((type_law t.0 x).0 t.1) ((data_law t.0 v.0 y).0 v.1))
     two_written at name notes x y i WithTypes law next forms h =
         let k = read_first (λ k. then_read (type_read (reader y).node) (λ v. Ok (instr.EmptyMap k v))) (type_read (reader x).node) i h in
         let v = read_first (λ v. Ok (instr.EmptyMap k.0 v)) (type_read (reader y).node) i k.2 in
         let same : instr.EmptyMap k.0 v.0 ≡ i = cc in
-        written name notes (x ∷ y ∷ []) i (form name (AType k.0 ∷ AType v.0 ∷ [])) (ap form_of (sym same) ∙ forms k.0 v.0) refl refl
+        written name notes (x ∷ y ∷ []) i (formed (instr.EmptyMap k.0 v.0) name (AType k.0 ∷ AType v.0 ∷ [])) (ap form_of (sym same) ∙ forms k.0 v.0) refl refl
         (behind_two (AType k.0) (AType v.0) x y ((type_law k.0 x).0 k.1) ((type_law v.0 y).0 v.1))
     two_written at name notes x y i WithNumberAndBody law next forms h =
         let n = read_first (λ n. then_read (reader y).code (λ c. Ok (instr.DipN n c))) (number at 0 (reader x).node) i h in
         let c = read_first (λ c. Ok (instr.DipN n.0 c)) (reader y).code i n.2 in
         let same : instr.DipN n.0 c.0 ≡ i = cc in
-        written name notes (x ∷ y ∷ []) i (form name (ANumber 0 n.0 ∷ ACode c.0 ∷ [])) (ap form_of (sym same) ∙ forms n.0 c.0) refl refl
+        written name notes (x ∷ y ∷ []) i (formed (instr.DipN n.0 c.0) name (ANumber 0 n.0 ∷ ACode c.0 ∷ [])) (ap form_of (sym same) ∙ forms n.0 c.0) refl refl
         (behind_two (ANumber 0 n.0) (ACode c.0) x y ((number_law at 0 n.0 x).0 n.1) ((code_law c.0 y next).0 c.1))
     two_written at name notes x y i (WithBodies make) law next forms h =
         let c = read_first (λ c. then_read (reader y).code (λ d. Ok (make c d))) (reader x).code i h in
         let d = read_first (λ d. Ok (make c.0 d)) (reader y).code i c.2 in
         let same : make c.0 d.0 ≡ i = cc in
-        written name notes (x ∷ y ∷ []) i (form name (ACode c.0 ∷ ACode d.0 ∷ [])) (ap form_of (sym same) ∙ forms c.0 d.0) refl refl
+        written name notes (x ∷ y ∷ []) i (formed (make c.0 d.0) name (ACode c.0 ∷ ACode d.0 ∷ [])) (ap form_of (sym same) ∙ forms c.0 d.0) refl refl
         (behind_two (ACode c.0) (ACode d.0) x y ((code_law c.0 x law).0 c.1) ((code_law d.0 y next).0 d.1))
     two_written at name notes x y i NotWithTwo law next forms h = absurd (no_form-fails at name i h)
 
@@ -228,15 +225,15 @@ module _
     pushed_read at notes t v (x ∷ y ∷ z ∷ more) laws behind = absurd (false≢true (and_parts _ false (and_parts _ _ behind).1).1)
 
     form_read : (at : ℕ) (notes : List (List ℕ)) (args : List Node) (x : Instr-F Instr) → Each CodeLaw args → IsMadeOrPushed x →
-        is_entry (form_at x).entry notes ≡ true → IsBehind (form_at x).operands args → applied at (form_at x).name notes (map reader args) ≡ Ok (roll-Instr x)
+        is_entry (form_at x).entry notes ≡ true → IsBehind (form_at x).operands args → applied at (form_at x).word notes (map reader args) ≡ Ok (roll-Instr x)
     form_read at notes args (of.Push t v) laws made fit behind = pushed_read at notes t v args laws behind ∙ ap (λ i. Ok i) (sym (rolls-Push t v))
-    form_read at notes args x laws made fit behind = operands_read at (form_at x).name notes (roll-Instr x) (form_at x).entry (form_at x).operands args laws made fit behind
+    form_read at notes args x laws made fit behind = operands_read at (form_at x).word notes (roll-Instr x) (form_at x).entry (form_at x).operands args laws made fit behind
 
     pub applied_read : (at : ℕ) (name : List ℕ) (notes : List (List ℕ)) (args : List Node) (i : Instr) → Each CodeLaw args →
         IsWritten name notes args i → applied at name notes (map reader args) ≡ Ok i
     applied_read at name notes args i laws h =
         let parts = and_parts _ _ h in
         let word = and_parts _ _ parts.0 in
-        ap (λ (w : List ℕ). applied at w notes (map reader args)) ((bytes_eq-Decides name (form_of i).name).0 word.0)
+        ap (λ (w : List ℕ). applied at w notes (map reader args)) ((bytes_eq-Decides name (form_of i).word).0 word.0)
         ∙ form_read at notes args (out-Instr i) laws (each_is_made (out-Instr i)) word.1 parts.1
-        ∙ ap (λ j. Ok j) (roll-out i)
+        ∙ ap (λ j. Ok j) (roll-out-Instr i)

@@ -12,7 +12,8 @@ use Rattle.micheline_text.specs.Layout.{Stops, IsPart, IsGap, IsLast, IsSpelled,
 use Rattle.micheline_text.specs.Grammar.{Tokens, Bracket, Brace, Paren, IsNode, IsBracketed, IsParted}
 use Rattle.micheline_text.specs.Printed.{print_body, printed}
 use Rattle.micheline_text.specs.Text.{IsTextOf}
-use Rattle.micheline_text.specs.Again.{unplaced, IsFitApplication, IsFitArgument, IsFitNode, IsFitContent, IsInside, IsPrintable}
+use Rattle.micheline_text.specs.Again.{unplaced}
+use Rattle.micheline_text.specs.Fits.{IsFitApplication, IsFitArgument, IsFitNode, IsFitContent, IsInside, IsPrintable}
 use Rattle.micheline_text.proofs.AgainLaws.{inner_again, no_more, node_again, placed_same, printed_is}
 
 -- ---- what fits into brackets fits into deeper ones
@@ -60,7 +61,7 @@ newline_stops test [] e s = e
 newline_stops test (b ∷ rest) e s = s
 
 spelled_on : (t : Token) (s rest : List ℕ) → IsSpelled t s rest → IsSpelled t s (rest ++ 10 ∷ [])
-spelled_on (token.Number z) s rest p = (p.0, p.1, p.2, p.3, p.4, p.5, p.6, newline_stops _ rest refl p.7, λ e. newline_stops _ rest refl (p.8 e))
+spelled_on (token.Number z) s rest p = (p.0, p.1, (p.2.0, p.2.1, p.2.2, newline_stops _ rest refl p.2.3, λ e. newline_stops _ rest refl (p.2.4 e)), p.3, p.4)
 spelled_on (token.Text t) s rest p = p
 spelled_on (token.Bytes t) s rest p = (p.0, p.1, p.2, p.3, p.4, p.5, newline_stops _ rest refl p.6)
 spelled_on (token.Word w) s rest p = (p.0, p.1, p.2, p.3, p.4, p.5, newline_stops _ rest refl p.6)

@@ -21,7 +21,7 @@ pub mod NodeInduction
 pub mod ParameterLevels
 pub mod ParameterLaws
 pub mod SectionLaws
-pub mod Laws
+pub mod ReadLaws
 pub mod CodeNodes
 pub mod EntryNames
 pub mod ParameterNodes
@@ -32,3 +32,4 @@ pub mod Refusals
 pub mod NodeReads
 pub mod WordFaults
 pub mod Ways
+pub mod OneScript

@@ -11,18 +11,19 @@ use Rattle.micheline_text.specs.declared.node.Node.{Node}
 use Rattle.micheline_text.specs.declared.node.Body.TheViews.{out-Body}
 use Rattle.michelson_code.specs.declared.instr.Instr.{Instr}
 use Rattle.michelson_code.specs.declared.instr.Instr.TheOpen.{Instr-F}
-use Rattle.michelson_code.specs.declared.instr.Instr.TheViews.{out-Instr}
 use Rattle.michelson_code.specs.declared.instr.Instr.TheFolds.{fold_out-Instr}
 use Rattle.data_nodes.specs.Nodes.{all_are}
 use Rattle.data_nodes.specs.Data.{is_written}
 use Rattle.data_nodes.specs.Printed.{node_of}
 use Rattle.data_nodes.proofs.WrittenNodes.{data_is_written, number_written, sequence_written}
 use Rattle.data_nodes.proofs.NodeLevels.{shows_prim}
-use Rattle.michelson_reader.specs.Forms.{Form, Operand, ANumber, AType, SomeData, ACode, form_at}
+use Rattle.michelson_code.specs.Forms.{Form, Operand, ANumber, AType, SomeData, ACode, bodies, form_at, form_of}
 use Rattle.michelson_reader.specs.Code.{is_code, is_entry, is_form_body, is_instruction, is_operand, is_pushed}
-use Rattle.michelson_reader.specs.Printed.{code_node, entry_names, instruction_node, noted, operand_node}
+use Rattle.michelson_reader.specs.Printed.{code_node, entry_names, instruction_node, operand_node}
 use Rattle.michelson_reader.specs.Printable.{is_fit, is_fit_entry, is_fit_operand}
-use Rattle.michelson_reader.proofs.FormLevels.{EachIn, fold_form, form_map, induction, is_instruction-level, operand_map}
+use Rattle.michelson_code.specs.Levels.{EachIn, fold_form, form_map, induction, operand_map}
+use Rattle.michelson_reader.proofs.CodeNodes.{form_node, node-level}
+use Rattle.michelson_reader.proofs.FormLevels.{is_instruction-level}
 use Rattle.michelson_reader.proofs.PassableData.{passable_is_data}
 use Rattle.michelson_reader.proofs.PrintedTypes.{type_is_written}
 
@@ -43,7 +44,7 @@ pushed_written t v fit =
     let typed = (and_parts _ _ (and_parts _ _ both.1).0).0 in
     and_from _ _ both.1 (data_is_written v (passable_is_data v t typed both.0))
 
-operands_written : (os : List (Operand Instr)) → EachIn Written os → list_all is_fit_operand (map (operand_map is_fit) os) ≡ true →
+operands_written : (os : List (Operand Instr)) → EachIn Written (bodies os) → list_all is_fit_operand (map (operand_map is_fit) os) ≡ true →
     all_are (map is_operand (map (operand_map is_instruction) os)) (map operand_node (map (operand_map instruction_node) os)) ≡ true
 operands_written [] h fit = refl
 operands_written (ANumber least n ∷ os) h fit =
@@ -64,29 +65,23 @@ entry_written None fit = refl
 entry_written (Some None) fit = refl
 entry_written (Some (Some name)) fit = and_from _ _ (and_from _ _ (nat_list_eq_equiv.refl name) refl) fit
 
-abbrev form_node : Form Node → Node
-form_node f = noted (entry_names f.entry) (f.name, map operand_node f.operands)
-
 abbrev is_fit_form : Form Bool → Bool
 is_fit_form f = is_fit_entry f.entry && list_all is_fit_operand f.operands
 
-form_written : (f : Form Instr) → EachIn Written f.operands → is_fit_form (form_map is_fit f) ≡ true →
+form_written : (f : Form Instr) → EachIn Written (bodies f.operands) → is_fit_form (form_map is_fit f) ≡ true →
     is_form_body (form_map is_instruction f) (out-Body (form_node (form_map instruction_node f)).body) ≡ true
 form_written f h fit =
     let both = and_parts _ _ fit in
-    ap (is_form_body (form_map is_instruction f)) (shows_prim f.name (map (λ name. 37 ∷ name) (entry_names f.entry)) (map operand_node (map (operand_map instruction_node) f.operands)))
-    ∙ and_from _ _ (and_from _ _ (nat_list_eq_equiv.refl f.name) (entry_written f.entry both.0)) (operands_written f.operands h both.1)
+    ap (is_form_body (form_map is_instruction f)) (shows_prim f.word (map (λ name. 37 ∷ name) (entry_names f.entry)) (map operand_node (map (operand_map instruction_node) f.operands)))
+    ∙ and_from _ _ (and_from _ _ (nat_list_eq_equiv.refl f.word) (entry_written f.entry both.0)) (operands_written f.operands h both.1)
 
-node-level : (i : Instr) → instruction_node i ≡ form_node (form_map instruction_node (form_at (out-Instr i)))
-node-level = fold_form (λ (x : Instr-F Node). form_node (form_at x)) form_node instruction_node (fold_out-Instr Node (λ x. form_node (form_at x))) (λ x. refl)
-
-fit-level : (i : Instr) → is_fit i ≡ is_fit_form (form_map is_fit (form_at (out-Instr i)))
+fit-level : (i : Instr) → is_fit i ≡ is_fit_form (form_map is_fit (form_of i))
 fit-level = fold_form (λ (x : Instr-F Bool). is_fit_form (form_at x)) is_fit_form is_fit (fold_out-Instr Bool (λ x. is_fit_form (form_at x))) (λ x. refl)
 
 instruction_is_written : (i : Instr) → Written i
 instruction_is_written = induction Written (λ i h fit.
-    ap (is_instruction i) (node-level i) ∙ is_instruction-level i (form_node (form_map instruction_node (form_at (out-Instr i))))
-    ∙ form_written (form_at (out-Instr i)) h (sym (fit-level i) ∙ fit))
+    ap (is_instruction i) (node-level i) ∙ is_instruction-level i (form_node (form_map instruction_node (form_of i)))
+    ∙ form_written (form_of i) h (sym (fit-level i) ∙ fit))
 
 -- ---- code
 

@@ -1,11 +1,12 @@
 -- What is told of the bytes of a text, from what is read of its nodes.
-use Rattle.std.proofs.Common.{◌≡◌, inl, inr, ℕ, List, length, Result, Ok, Err, refl, ap, sym, subst, ◌∙◌}
+use Rattle.std.proofs.Common.{◌≡◌, ◌⊎◌, inl, inr, ℕ, List, length, Result, Ok, Err, refl, ap, sym, subst, ◌∙◌}
 use Rattle.std.specs.Prelude.{IfErr, IfOk}
 use Rattle.std.specs.Result.{IsErrAnd}
 use Rattle.micheline_text.specs.declared.fault.TextFault.{TextFault}
 use Rattle.micheline_text.specs.declared.fault.TextFault.TheVariants as text
 use Rattle.micheline_text.specs.declared.node.Node.{Node}
 use Rattle.micheline_text.specs.Fault.{Gives as TextGives}
+use Rattle.micheline_text.specs.Faults.{IsFaultOf}
 use Rattle.micheline_text.specs.Text.{IsTextOf}
 use Rattle.michelson_code.specs.declared.script.Script.{Script}
 use Rattle.michelson_reader.specs.declared.fault.ReadFault.{ReadFault}
@@ -14,7 +15,7 @@ use Rattle.michelson_reader.specs.Answers.{Gives, IsReadFault}
 use Rattle.michelson_reader.specs.Returned.{Answers, Refuses, of_text}
 use Rattle.michelson_reader.specs.Script.{AreSections, IsScriptOf, unbraced}
 use Rattle.michelson_reader.specs.ScriptFaults.{script_read}
-use Rattle.michelson_reader.proofs.Laws.{script-read}
+use Rattle.michelson_reader.proofs.ReadLaws.{script-read}
 use Rattle.michelson_reader.proofs.NodeFaults.{no_text_fault}
 use Rattle.michelson_reader.proofs.ReadLemmas.{same_read}
 
@@ -69,3 +70,12 @@ module _ (bytes : List ℕ) where
       ((ns : List Node) → IsTextOf bytes ns → TextGives (λ ns. ns) (Err f) (Ok ns)) → (s : Script) → IsScriptOf bytes s → Gives s told
   told_text f (Ok read) is only s script = absurd is
   told_text f (Err e) is only s script = is ∙ text_only f only s script
+
+  read_fault : (f : TextFault) → (f ≡ text.NoMemory) ⊎ IsFaultOf bytes f → IsReadFault bytes (of_text f)
+  read_fault text.NoMemory h = tt
+  read_fault f (inl memory) = absurd cc
+  read_fault f (inr is) = is
+
+  pub told_text_fault : (f : TextFault) (told : Result Script ReadFault) → IsErrAnd told (λ e. e ≡ of_text f) → (f ≡ text.NoMemory) ⊎ IsFaultOf bytes f → IfErr told (IsReadFault bytes)
+  told_text_fault f (Ok read) is h = absurd is
+  told_text_fault f (Err e) is h = subst (IsReadFault bytes) (sym is) (read_fault f h)

@@ -10,13 +10,13 @@ use Rattle.micheline_text.specs.declared.node.Body.TheOpen.{Body-F}
 use Rattle.micheline_text.specs.declared.node.Body.TheViews.{out-Body}
 use Rattle.micheline_text.specs.Again.{unplaced}
 use Rattle.michelson_code.specs.declared.instr.Instr.{Instr}
-use Rattle.michelson_code.specs.declared.instr.Instr.TheViews.{out-Instr}
 use Rattle.data_nodes.specs.Nodes.{Test}
 use Rattle.data_nodes.proofs.Unplaced.{IgnoresPlaces, all_are-unplaced, bare, is_number-unplaced, is_sequence-unplaced, level-unplaced}
 use Rattle.data_nodes.proofs.WrittenNodes.{is_written-unplaced}
-use Rattle.michelson_reader.specs.Forms.{Form, Operand, ANumber, AType, SomeData, ACode, form_at}
+use Rattle.michelson_code.specs.Forms.{Form, Operand, ANumber, AType, SomeData, ACode, bodies, form_of}
 use Rattle.michelson_reader.specs.Code.{is_code, is_count, is_entry, is_form_body, is_instruction, is_operand, is_pushed}
-use Rattle.michelson_reader.proofs.FormLevels.{EachIn, form_map, induction, is_instruction-level, operand_map}
+use Rattle.michelson_code.specs.Levels.{EachIn, form_map, induction, operand_map}
+use Rattle.michelson_reader.proofs.FormLevels.{is_instruction-level}
 use Rattle.michelson_reader.proofs.UnplacedTypes.{is_type-unplaced}
 
 abbrev Ignored : Instr → Type 0
@@ -26,7 +26,7 @@ body_ignored : (c : List Instr) → AllByRecursion Ignored c → AllByRecursion 
 body_ignored [] h = tt
 body_ignored (i ∷ c) h = (h.0, body_ignored c h.1)
 
-operands_ignored : (os : List (Operand Instr)) → EachIn Ignored os → AllByRecursion IgnoresPlaces (map is_operand (map (operand_map is_instruction) os))
+operands_ignored : (os : List (Operand Instr)) → EachIn Ignored (bodies os) → AllByRecursion IgnoresPlaces (map is_operand (map (operand_map is_instruction) os))
 operands_ignored [] h = tt
 operands_ignored (ANumber least n ∷ os) h = (λ m. ap (λ (b : Bool). is_count least n && b) (is_number-unplaced (pos n) m), operands_ignored os h)
 operands_ignored (AType t ∷ os) h = (is_type-unplaced t, operands_ignored os h)
@@ -34,15 +34,15 @@ operands_ignored (SomeData t v ∷ os) h = (λ m. ap (λ (b : Bool). is_pushed t
 operands_ignored (ACode c ∷ os) h = (is_sequence-unplaced (map is_instruction c) (body_ignored c h.0), operands_ignored os h.1)
 
 form_ignored : (f : Form Test) → AllByRecursion IgnoresPlaces (map is_operand f.operands) → (x : Body-F Body Node) → is_form_body f (bare x) ≡ is_form_body f x
-form_ignored f h (body.Prim name notes args) = ap (λ (b : Bool). bytes_eq name f.name && is_entry f.entry notes && b) (all_are-unplaced (map is_operand f.operands) h args)
+form_ignored f h (body.Prim name notes args) = ap (λ (b : Bool). bytes_eq name f.word && is_entry f.entry notes && b) (all_are-unplaced (map is_operand f.operands) h args)
 form_ignored f h _ = refl
 
 -- whether a node is written for an instruction doesn't turn on places
 pub is_instruction-unplaced : (i : Instr) → IgnoresPlaces (is_instruction i)
 is_instruction-unplaced = induction Ignored (λ i h n.
-    let f : Form Test = form_map is_instruction (form_at (out-Instr i)) in
+    let f : Form Test = form_map is_instruction (form_of i) in
     is_instruction-level i (unplaced n)
-    ∙ ap (is_form_body f) (level-unplaced n) ∙ form_ignored f (operands_ignored (form_at (out-Instr i)).operands h) (out-Body n.body)
+    ∙ ap (is_form_body f) (level-unplaced n) ∙ form_ignored f (operands_ignored (form_of i).operands h) (out-Body n.body)
     ∙ sym (is_instruction-level i n))
 
 all_ignored : (c : List Instr) → AllByRecursion IgnoresPlaces (map is_instruction c)

@@ -1,9 +1,7 @@
 -- What a call returned, beside what a definition says.
 use Rattle.std.specs.Prelude.{◌≡◌, ℕ, List, length, Result, Ok, Err}
 use Rattle.micheline_text.specs.declared.node.Node.{Node}
-use Rattle.micheline_text.specs.declared.fault.TextFault.TheVariants as text
-use Rattle.micheline_text.specs.Faults.{IsFault}
-use Rattle.micheline_text.specs.Lexing.{tokens_of}
+use Rattle.micheline_text.specs.Faults.{IsFaultOf}
 use Rattle.micheline_text.specs.Text.{IsTextOf}
 use Rattle.michelson_reader.specs.declared.fault.ReadFault.{ReadFault}
 use Rattle.michelson_reader.specs.declared.fault.ReadFault.TheVariants as fault
@@ -17,6 +15,5 @@ Gives x (Err e) = e ≡ fault.NoMemory
 -- a fault of the text itself, which is never want of memory, or else the first one of its nodes
 abbrev pub IsReadFault : List ℕ → ReadFault → Type 0
 IsReadFault bytes fault.NoMemory = Unit {0}
-IsReadFault bytes (fault.Text text.NoMemory) = ⊥
-IsReadFault bytes (fault.Text f) = IsFault (tokens_of 0 bytes) f
+IsReadFault bytes (fault.Text f) = IsFaultOf bytes f
 IsReadFault bytes f = (ns : List Node) × IsTextOf bytes ns × (script_read (length bytes) ns ≡ Err f)

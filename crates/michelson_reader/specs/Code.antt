@@ -19,7 +19,7 @@ use Rattle.data_nodes.specs.Addressed.{has_addresses}
 use Rattle.data_nodes.specs.Nodes.{Test, all_are, is_number, is_sequence}
 use Rattle.data_nodes.specs.Data.{is_written}
 use Rattle.michelson_reader.specs.Entries.{names_in}
-use Rattle.michelson_reader.specs.Forms.{Form, Operand, ANumber, AType, SomeData, ACode, form_at}
+use Rattle.michelson_code.specs.Forms.{Form, Operand, ANumber, AType, SomeData, ACode, form_at}
 use Rattle.michelson_reader.specs.Types.{is_type}
 
 -- a number of an instruction is at most 65,535
@@ -44,7 +44,7 @@ is_entry (Some None) notes = pointwise bytes_eq (names_in notes) []
 is_entry (Some (Some name)) notes = pointwise bytes_eq (names_in notes) (name ∷ []) && is_name name
 
 abbrev pub is_form_body : Form Test → Body-F Body Node → Bool
-is_form_body f (body.Prim name notes args) = bytes_eq name f.name && is_entry f.entry notes && all_are (map is_operand f.operands) args
+is_form_body f (body.Prim name notes args) = bytes_eq name f.word && is_entry f.entry notes && all_are (map is_operand f.operands) args
 is_form_body f _ = false
 
 -- one level of an instruction, with what is written for each instruction of a body in its place

@@ -1,6 +1,5 @@
 -- what the public contracts rest on
 pub mod Types
-pub mod Forms
 pub mod Code
 pub mod Entries
 pub mod Script

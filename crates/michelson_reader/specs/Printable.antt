@@ -7,14 +7,14 @@ use Rattle.value_core.specs.declared.ty.Ty.TheOpen.{Ty-F}
 use Rattle.value_core.specs.declared.ty.Ty.TheFolds.{fold-Ty}
 use Rattle.value_core.specs.Kinds.{is_passable}
 use Rattle.value_core.specs.Leaves.{is_name}
-use Rattle.micheline_text.specs.Again.{IsPrintable}
+use Rattle.micheline_text.specs.Fits.{IsPrintable}
 use Rattle.michelson_code.specs.declared.instr.Instr.{Instr}
 use Rattle.michelson_code.specs.declared.instr.Instr.TheFolds.{fold-Instr}
 use Rattle.michelson_code.specs.declared.script.Script.{Script}
 use Rattle.michelson_code.specs.declared.script.Side.TheVariants.{Left, Right}
 use Rattle.michelson_reader.specs.Code.{is_count, is_pushed}
 use Rattle.michelson_reader.specs.Entries.{Entry, Path}
-use Rattle.michelson_reader.specs.Forms.{Form, Operand, ANumber, AType, SomeData, ACode, form_at}
+use Rattle.michelson_code.specs.Forms.{Form, Operand, ANumber, AType, SomeData, ACode, form_at}
 use Rattle.michelson_reader.specs.Printed.{code_section, parameter_section, storage_section}
 
 -- one level of a type, whose parts say which ways lead to a node of theirs through `or` alone

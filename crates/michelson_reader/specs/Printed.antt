@@ -16,7 +16,7 @@ use Rattle.data_nodes.specs.Nodes.{applied, node}
 use Rattle.data_nodes.specs.Printed.{node_of}
 use Rattle.michelson_reader.specs.Entries.{Entry}
 use Rattle.michelson_reader.specs.Types.{word_and_parts}
-use Rattle.michelson_reader.specs.Forms.{Form, Operand, ANumber, AType, SomeData, ACode, form_at}
+use Rattle.michelson_code.specs.Forms.{Form, Operand, ANumber, AType, SomeData, ACode, form_at}
 
 -- a word with the names of entries as annotations
 abbrev pub noted : List (List ℕ) → List ℕ × List Node → Node
@@ -69,7 +69,7 @@ entry_names (Some (Some name)) = name ∷ []
 entry_names _ = []
 
 abbrev pub instruction_node : Instr → Node
-instruction_node = fold-Instr Node (λ x. let f : Form Node = form_at x in noted (entry_names f.entry) (f.name, map operand_node f.operands))
+instruction_node = fold-Instr Node (λ x. let f : Form Node = form_at x in noted (entry_names f.entry) (f.word, map operand_node f.operands))
 
 abbrev pub code_node : List Instr → Node
 code_node code = node (body.Seq (map instruction_node code))

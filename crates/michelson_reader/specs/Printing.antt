@@ -7,13 +7,12 @@ use Rattle.value_core.specs.declared.ty.Ty.TheFolds.{fold-Ty, map-Ty}
 use Rattle.micheline_text.specs.declared.node.Node.{Node}
 use Rattle.micheline_text.specs.declared.node.Body.TheVariants as body
 use Rattle.michelson_code.specs.declared.instr.Instr.{Instr}
-use Rattle.michelson_code.specs.declared.instr.Instr.TheViews.{out-Instr}
-use Rattle.michelson_code.specs.declared.instr.Instr.TheFolds.{map-Instr}
 use Rattle.michelson_code.specs.declared.script.Side.{Side}
 use Rattle.data_nodes.specs.Nodes.{node}
 use Rattle.michelson_reader.specs.declared.parameter_nodes.EntryBelow.{EntryBelow}
 use Rattle.michelson_reader.specs.Entries.{Entry}
-use Rattle.michelson_reader.specs.Forms.{form_at}
+use Rattle.michelson_code.specs.Forms.{Operand}
+use Rattle.michelson_code.specs.Levels.{operand_map}
 use Rattle.michelson_reader.specs.Printed.{PartNode, instruction_node, names_below, names_here, noted, operand_node, part_nodes, type_node}
 use Rattle.michelson_reader.specs.Types.{word_and_parts}
 
@@ -62,14 +61,10 @@ part_node t = (fold-Ty PartNode part_level t).1
 
 -- ---- code
 
--- the word of an instruction's form
-abbrev pub word_of_form : Instr → List ℕ
-word_of_form i = (form_at (out-Instr i)).name
+-- the node of an operand
+abbrev pub node_behind : Operand Instr → Node
+node_behind o = operand_node (operand_map instruction_node o)
 
--- the name of an entry, where the form has a place for it
-abbrev pub entry_of_form : Instr → Option (Option (List ℕ))
-entry_of_form i = (form_at (out-Instr i)).entry
-
--- the nodes of what stands behind the word
-abbrev pub operands_of : Instr → List Node
-operands_of i = map operand_node (form_at (map-Instr Instr Node instruction_node (out-Instr i))).operands
+-- the nodes of what stands behind a word
+abbrev pub nodes_behind : List (Operand Instr) → List Node
+nodes_behind operands = map operand_node (map (operand_map instruction_node) operands)

@@ -27,6 +27,7 @@ pub enum ReadFault {
     Arity(usize),
     /// Pushed data.
     Data(DataFault),
+    /// Memory ran out.
     NoMemory,
 }
 

@@ -3,6 +3,7 @@
 //! A script is the types of parameter and storage, the names of the entries, and a code. Data at a
 //! type is read and printed too; `data_nodes` does that.
 //!
+//! - `laws`: what is true of the texts of scripts.
 //! - `script`: `read_script`. Begin here. `parameter` reads the parameter's type with the names,
 //!   `types` a type, `code` an instruction, and `pushed` the data that one pushes.
 //! - `words`, `type_words`, `code_words`, `plain_forms`, `entries`: what a word is written for, and
@@ -11,8 +12,8 @@
 //!   nodes that are printed.
 //! - `fault`: why bytes are no script, and where that is told.
 //!
-//! `specs/Forms.antt` is the table of forms, one line for each: the grammar (`Code.antt`), the
-//! printer and the condition for reading again (`Printable.antt`) all take it. `specs/*Faults.antt`
+//! The grammar (`specs/Code.antt`), the printer and the condition for reading again
+//! (`specs/Printable.antt`) all take the table of forms of `michelson_code`. `specs/*Faults.antt`
 //! read from the left, and say which fault is told. Recursion goes as deep as nodes are nested.
 #![tactic(auto)]
 
@@ -21,6 +22,7 @@ mod code_nodes;
 mod code_words;
 mod entries;
 mod fault;
+mod laws;
 mod nodes;
 mod parameter;
 mod parameter_nodes;
@@ -39,5 +41,6 @@ mod words;
 
 pub use data_nodes::{DataFault, DataKind, DataRefusal, print_data, read_data, read_storage};
 pub use fault::ReadFault;
+pub use laws::{a_text_spells_one_script, two_scripts_never_share_a_text};
 pub use printer::print_script;
 pub use script::read_script;

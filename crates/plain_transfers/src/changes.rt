@@ -8,20 +8,19 @@ ghost use Rattle.ledger_state.specs.Ledger.{Balances, balance, supply, with_bala
 ghost use Rattle.plain_transfers.specs.Changes.{AreChanges, holding_of, over};
 ghost use Rattle.plain_transfers.specs.Serial.{credited, debited};
 
-use crate::account::Account;
 use ledger_state::{Holding, NoMemory, State};
 use std::alloc::Global;
 use std::collections::BTreeMap;
 use value_core::Address;
 
 /// What some accounts have now, by address.
-pub(crate) type Changes = BTreeMap<Account, u64>;
+pub(crate) type Changes = BTreeMap<Address, u64>;
 
 /// What an account has now.
 pub(crate) fn balance_in(state: &State, changes: &Changes, address: &Address) -> u64
     ensures { result ≡ balance (over state.now.balances changes.now.entries) address.now }
 {
-    match changes.get(&Account(*address)) {
+    match changes.get(address) {
         Some(amount) => *amount,
         None => state.balance(address),
     }
@@ -40,7 +39,7 @@ fn put(changes: &mut Changes, address: Address, amount: u64) -> Result<(), NoMem
     ensures absent { OnErr result (get (slice_cmp nat_cmp) changes.old address ≡ None) }
     ensures unchanged { OnErr result (changes.new.entries ≡ changes.old.entries) }
 {
-    changes.insert(Account(address), amount)?;
+    changes.insert(address, amount)?;
     Ok(())
 }
 
@@ -82,7 +81,7 @@ pub(crate) fn holdings_of(alloc: Global, changes: &Changes) -> Result<Vec<Holdin
     changes
         .iter()
         .map(|(address, amount)| Holding {
-            address: address.0,
+            address: *address,
             amount: *amount,
         })
         .collect(alloc)

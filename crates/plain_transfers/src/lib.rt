@@ -6,15 +6,13 @@
 //! Own alone where both are one account.
 //!
 //! - `overlay`: the balances of a state with what changed kept apart. Begin here.
-//! - `changes`: what changed, in an ordered map, so that a transfer costs a logarithm; `account`:
-//!   the keys of that map.
+//! - `changes`: what changed, in a map ordered by addresses, so that a transfer costs a logarithm.
 //! - `supply`: transfers keep what there is.
 //!
 //! `Overlay::run` equals `serial` (`specs/Serial.antt`), a definition over whole maps of balances,
 //! and a block's operations mean `run_all` (`specs/Run.antt`), the fold of it.
 #![tactic(auto)]
 
-mod account;
 mod changes;
 mod overlay;
 mod supply;

@@ -1,18 +1,18 @@
 -- What has a spelling, level by level.
 use Rattle.std.proofs.Common.{◌≡◌, ℕ, zero, suc, ◌+◌, ◌≤◌, Bool, true, false, List, [], ◌∷◌, map, refl, sym, ap, subst, ◌∙◌, arith}
-use Rattle.std.specs.Prelude.{IsTrue, ◌&&◌}
+use Rattle.std.specs.Prelude.{IsTrue, ◌&&◌, nat_le}
 use Rattle.std.specs.List.{list_all, AllByRecursion}
 use Rattle.value_core.specs.declared.val.Val.{Val}
 use Rattle.value_core.specs.declared.val.Val.TheOpen as one
 use Rattle.value_core.specs.declared.val.Val.TheViews.{out-Val, roll-Val}
-use Rattle.value_core.specs.Layer.{Layer, flat, on_parts, parts_of}
+use Rattle.value_core.specs.Layer.{Layer, parts_of, tag_of}
 use Rattle.value_core.specs.Sound.{is_plain, is_sound_level, is_settled_level}
-use Rattle.value_core.proofs.Levels.{by_level-is, out-roll, parts_of-on_parts}
+use Rattle.value_core.specs.Everywhere.{everywhere}
+use Rattle.value_core.proofs.Levels.{Each, induction, by_level-is, out-roll, parts_of-on_parts}
 use Rattle.value_core.proofs.Everywhere.{everywhere-is}
 use Rattle.value_core.specs.Depth.{greatest, depth_of}
-use Rattle.value_codec.specs.Spelling.{is_number, leaf_level, has_leaves, IsSpelt}
-use Rattle.value_codec.proofs.Spelt.{all_mapped}
-use Rattle.value_core.specs.Leaves.{is_text, is_blob, is_address}
+use Rattle.value_core.specs.Lawful.{is_lawful, is_lawful_level}
+use Rattle.value_codec.specs.Spelling.{has_tags, IsSpelt}
 
 -- ---- tests
 
@@ -30,67 +30,22 @@ second_true false b h = absurd cc
 
 -- ---- one level
 
--- what stands in one level keeps the rules of its type
-abbrev pub leaf_rule : Layer Val → Bool
-leaf_rule (one.Int n) = is_number n
-leaf_rule (one.Nat n) = is_number n
-leaf_rule (one.Time n) = is_number n
-leaf_rule (one.Text bytes) = is_text bytes
-leaf_rule (one.Bytes bytes) = is_blob bytes
-leaf_rule (one.Addr address) = is_address address
-leaf_rule x = true
-
-pub record GoodLevel (x : Layer Val) : Type 0 where
+pub record GoodLevel (most : ℕ) (x : Layer Val) : Type 0 where
+  pub tag : IsTrue (nat_le (tag_of x) most)
   pub sound : IsTrue (is_sound_level x)
   pub settled : IsTrue (is_settled_level x)
-  pub leaf : IsTrue (leaf_rule x)
+  pub leaf : IsTrue (is_lawful_level x)
 
 -- good at each level, and at most d deep
-abbrev pub IsGood : ℕ → Val → Type 0
-IsGood zero v = ⊥
-IsGood (suc d) v = GoodLevel (out-Val v) × AllByRecursion (IsGood d) (parts_of (out-Val v))
+abbrev pub IsGood : ℕ → ℕ → Val → Type 0
+IsGood most zero v = ⊥
+IsGood most (suc d) v = GoodLevel most (out-Val v) × AllByRecursion (IsGood most d) (parts_of (out-Val v))
 
-pub good_at : (d : ℕ) (x : Layer Val) (v : Val) → roll-Val x ≡ v → GoodLevel x → AllByRecursion (IsGood d) (parts_of x) → IsGood (suc d) v
-good_at d x v is level parts =
-    subst (λ w. IsGood (suc d) w) is (subst (λ (l : Layer Val). GoodLevel l × AllByRecursion (IsGood d) (parts_of l)) (sym (out-roll x)) (level, parts))
+pub good_at : (most d : ℕ) (x : Layer Val) (v : Val) → roll-Val x ≡ v → GoodLevel most x → AllByRecursion (IsGood most d) (parts_of x) → IsGood most (suc d) v
+good_at most d x v is level parts =
+    subst (λ w. IsGood most (suc d) w) is (subst (λ (l : Layer Val). GoodLevel most l × AllByRecursion (IsGood most d) (parts_of l)) (sym (out-roll x)) (level, parts))
 
 -- ---- the three tests at one level
-
-record Leaves (x : Layer Val) : Type 0 where
-  rule : IsTrue (leaf_rule x)
-  parts : IsTrue (list_all has_leaves (parts_of x))
-
-all_parts : (vs : List Val) → list_all (λ part. part) (map has_leaves vs) ≡ true → list_all has_leaves vs ≡ true
-all_parts vs h = sym (all_mapped vs) ∙ h
-
-flat_parts : (es : List (Val × Val)) → list_all (λ part. part) (flat (map (λ e. (has_leaves e.0, has_leaves e.1)) es)) ≡ true → list_all has_leaves (flat es) ≡ true
-flat_parts es h = sym (ap (list_all (λ part. part)) (parts_of-on_parts has_leaves (one.Map es)) ∙ all_mapped (flat es)) ∙ h
-
-leaves_level : (x : Layer Val) → is_settled_level x ≡ true → leaf_level (on_parts has_leaves x) ≡ true → Leaves x
-leaves_level (one.Int n) s h = record { rule = h; parts = refl }
-leaves_level (one.Nat n) s h = record { rule = h; parts = refl }
-leaves_level (one.Time n) s h = record { rule = h; parts = refl }
-leaves_level (one.Text bytes) s h = record { rule = h; parts = refl }
-leaves_level (one.Bytes bytes) s h = record { rule = h; parts = refl }
-leaves_level (one.Addr address) s h = record { rule = h; parts = refl }
-leaves_level (one.List items) s h = record { rule = refl; parts = all_parts items h }
-leaves_level (one.Set items) s h = record { rule = refl; parts = all_parts items h }
-leaves_level (one.Map entries) s h = record { rule = refl; parts = flat_parts entries h }
-leaves_level (one.Operation emit) s h = absurd cc
-leaves_level x s h = record { rule = refl; parts = h }
-
-level_leaves : (x : Layer Val) → Leaves x → leaf_level (on_parts has_leaves x) ≡ true
-level_leaves (one.Int n) l = l.rule
-level_leaves (one.Nat n) l = l.rule
-level_leaves (one.Time n) l = l.rule
-level_leaves (one.Text bytes) l = l.rule
-level_leaves (one.Bytes bytes) l = l.rule
-level_leaves (one.Addr address) l = l.rule
-level_leaves (one.List items) l = all_mapped items ∙ l.parts
-level_leaves (one.Set items) l = all_mapped items ∙ l.parts
-level_leaves (one.Map entries) l = ap (list_all (λ part. part)) (parts_of-on_parts has_leaves (one.Map entries)) ∙ all_mapped (flat entries) ∙ l.parts
-level_leaves (one.Operation emit) l = refl
-level_leaves x l = l.parts
 
 depth-is : (v : Val) → depth_of v ≡ 1 + greatest (map depth_of (parts_of (out-Val v)))
 depth-is v = by_level-is (λ x. 1 + greatest (parts_of x)) v ∙ ap (λ ns. 1 + greatest ns) (parts_of-on_parts depth_of (out-Val v))
@@ -98,52 +53,82 @@ depth-is v = by_level-is (λ x. 1 + greatest (parts_of x)) v ∙ ap (λ ns. 1 + 
 plain-is : (v : Val) → is_plain v ≡ ((is_sound_level (out-Val v) && is_settled_level (out-Val v)) && list_all is_plain (parts_of (out-Val v)))
 plain-is = everywhere-is (λ x. is_sound_level x && is_settled_level x)
 
-leaves-is : (v : Val) → has_leaves v ≡ leaf_level (on_parts has_leaves (out-Val v))
-leaves-is = by_level-is leaf_level
+lawful-is : (v : Val) → is_lawful v ≡ (is_lawful_level (out-Val v) && list_all is_lawful (parts_of (out-Val v)))
+lawful-is = everywhere-is is_lawful_level
+
+tags-is : (most : ℕ) (v : Val) → has_tags most v ≡ (nat_le (tag_of (out-Val v)) most && list_all (has_tags most) (parts_of (out-Val v)))
+tags-is most = everywhere-is (λ x. nat_le (tag_of x) most)
+
+-- ---- a plain value has tags up to that of big maps
+
+plain_tag : (x : Layer Val) → is_settled_level x ≡ true → nat_le (tag_of x) 18 ≡ true
+plain_tag (one.Bool false) s = refl
+plain_tag (one.Bool true) s = refl
+plain_tag (one.Contract address entry) s = absurd cc
+plain_tag (one.Operation emit) s = absurd cc
+plain_tag _ s = refl
+
+abbrev PlainTags : Val → Type 0
+PlainTags v = is_plain v ≡ true → has_tags 18 v ≡ true
+
+plain_all : (vs : List Val) → Each PlainTags vs → list_all is_plain vs ≡ true → list_all (has_tags 18) vs ≡ true
+plain_all [] each h = refl
+plain_all (v ∷ vs) each h = both_true (has_tags 18 v) _ (each.0 (first_true (is_plain v) _ h)) (plain_all vs each.1 (second_true (is_plain v) _ h))
+
+pub plain_tags : (v : Val) → is_plain v ≡ true → has_tags 18 v ≡ true
+plain_tags = induction PlainTags (λ v each plain.
+    let h = sym (plain-is v) ∙ plain in
+    let level = first_true (is_sound_level (out-Val v) && is_settled_level (out-Val v)) _ h in
+    let settled = second_true (is_sound_level (out-Val v)) _ level in
+    tags-is 18 v ∙ both_true (nat_le (tag_of (out-Val v)) 18) _ (plain_tag (out-Val v) settled) (plain_all (parts_of (out-Val v)) each (second_true (is_sound_level (out-Val v) && is_settled_level (out-Val v)) _ h)))
 
 -- ---- at each level is everywhere
 
-good_all : (d : ℕ) → ((v : Val) → IsSpelt d v → IsGood d v) → (vs : List Val) → list_all has_leaves vs ≡ true → list_all is_plain vs ≡ true → greatest (map depth_of vs) ≤ d →
-    AllByRecursion (IsGood d) vs
-good_all d each [] leaves plain deep = tt
-good_all d each (v ∷ vs) leaves plain deep = (
-  each v (record { leaves = first_true (has_leaves v) _ leaves; plain = first_true (is_plain v) _ plain; deep = omega arith }),
-  good_all d each vs (second_true (has_leaves v) _ leaves) (second_true (is_plain v) _ plain) (omega arith),
+good_all : (most d : ℕ) → ((v : Val) → IsSpelt most d v → IsGood most d v) → (vs : List Val) → list_all is_lawful vs ≡ true → list_all is_plain vs ≡ true → list_all (has_tags most) vs ≡ true → greatest (map depth_of vs) ≤ d →
+    AllByRecursion (IsGood most d) vs
+good_all most d each [] leaves plain tags deep = tt
+good_all most d each (v ∷ vs) leaves plain tags deep = (
+  each v (record { leaves = first_true (is_lawful v) _ leaves; plain = first_true (is_plain v) _ plain; tags = first_true (has_tags most v) _ tags; deep = omega arith }),
+  good_all most d each vs (second_true (is_lawful v) _ leaves) (second_true (is_plain v) _ plain) (second_true (has_tags most v) _ tags) (omega arith),
 )
 
-pub is_good : (d : ℕ) (v : Val) → IsSpelt d v → IsGood d v
-is_good zero v h = absurd (omega (arith, depth-is v, h.deep))
-is_good (suc d) v h =
+pub is_good : (most d : ℕ) (v : Val) → IsSpelt most d v → IsGood most d v
+is_good most zero v h = absurd (omega (arith, depth-is v, h.deep))
+is_good most (suc d) v h =
     let plain = sym (plain-is v) ∙ h.plain in
+    let tags = sym (tags-is most v) ∙ h.tags in
     let level = first_true (is_sound_level (out-Val v) && is_settled_level (out-Val v)) _ plain in
     let settled = second_true (is_sound_level (out-Val v)) _ level in
-    let leaves = leaves_level (out-Val v) settled (sym (leaves-is v) ∙ h.leaves) in (
-      record { sound = first_true (is_sound_level (out-Val v)) _ level; settled = settled; leaf = leaves.rule },
-      good_all d (is_good d) (parts_of (out-Val v)) leaves.parts (second_true (is_sound_level (out-Val v) && is_settled_level (out-Val v)) _ plain) (omega (arith, depth-is v, h.deep)),
+    let lawful = sym (lawful-is v) ∙ h.leaves in (
+      record { tag = first_true (nat_le (tag_of (out-Val v)) most) _ tags; sound = first_true (is_sound_level (out-Val v)) _ level; settled = settled; leaf = first_true (is_lawful_level (out-Val v)) _ lawful },
+      good_all most d (is_good most d) (parts_of (out-Val v)) (second_true (is_lawful_level (out-Val v)) _ lawful) (second_true (is_sound_level (out-Val v) && is_settled_level (out-Val v)) _ plain) (second_true (nat_le (tag_of (out-Val v)) most) _ tags) (omega (arith, depth-is v, h.deep)),
     )
 
-record AllSpelt (d : ℕ) (vs : List Val) : Type 0 where
-  leaves : list_all has_leaves vs ≡ true
+record AllSpelt (most d : ℕ) (vs : List Val) : Type 0 where
+  leaves : list_all is_lawful vs ≡ true
   plain : list_all is_plain vs ≡ true
+  tags : list_all (has_tags most) vs ≡ true
   deep : greatest (map depth_of vs) ≤ d
 
-spelt_all : (d : ℕ) → ((v : Val) → IsGood d v → IsSpelt d v) → (vs : List Val) → AllByRecursion (IsGood d) vs → AllSpelt d vs
-spelt_all d each [] good = record { leaves = refl; plain = refl; deep = omega arith }
-spelt_all d each (v ∷ vs) good =
+spelt_all : (most d : ℕ) → ((v : Val) → IsGood most d v → IsSpelt most d v) → (vs : List Val) → AllByRecursion (IsGood most d) vs → AllSpelt most d vs
+spelt_all most d each [] good = record { leaves = refl; plain = refl; tags = refl; deep = omega arith }
+spelt_all most d each (v ∷ vs) good =
     let first = each v good.0 in
-    let others = spelt_all d each vs good.1 in
+    let others = spelt_all most d each vs good.1 in
     record {
-      leaves = both_true (has_leaves v) _ first.leaves others.leaves;
+      leaves = both_true (is_lawful v) _ first.leaves others.leaves;
       plain = both_true (is_plain v) _ first.plain others.plain;
+      tags = both_true (has_tags most v) _ first.tags others.tags;
       deep = omega (arith, first.deep, others.deep);
     }
 
-pub is_spelt : (d : ℕ) (v : Val) → IsGood d v → IsSpelt d v
-is_spelt zero v h = absurd h
-is_spelt (suc d) v h =
-    let parts = spelt_all d (is_spelt d) (parts_of (out-Val v)) h.1 in
+pub is_spelt : (most d : ℕ) (v : Val) → IsGood most d v → IsSpelt most d v
+is_spelt most zero v h = absurd h
+is_spelt most (suc d) v h =
+    let parts = spelt_all most d (is_spelt most d) (parts_of (out-Val v)) h.1 in
     record {
-      leaves = leaves-is v ∙ level_leaves (out-Val v) (record { rule = h.0.leaf; parts = parts.leaves });
+      leaves = lawful-is v ∙ both_true (is_lawful_level (out-Val v)) _ h.0.leaf parts.leaves;
       plain = plain-is v ∙ both_true (is_sound_level (out-Val v) && is_settled_level (out-Val v)) _ (both_true (is_sound_level (out-Val v)) _ h.0.sound h.0.settled) parts.plain;
+      tags = tags-is most v ∙ both_true (nat_le (tag_of (out-Val v)) most) _ h.0.tag parts.tags;
       deep = omega (arith, depth-is v, parts.deep);
     }

@@ -5,4 +5,4 @@ pub mod Turns
 pub mod Levels
 pub mod Ascending
 pub mod Rows
-pub mod Laws
+pub mod ValueLaws

@@ -8,16 +8,18 @@ use Rattle.std.proofs.lemmas.Int.{ints}
 use Rattle.byte_fields.specs.Readers.{Reader, both, with, checked, many, number}
 use Rattle.byte_fields.specs.Laws.{Reads}
 use Rattle.byte_fields.proofs.Digits.{wide8, wide32, wide64, wide128}
-use Rattle.byte_fields.proofs.Numbers.{run_reads, number_reads, signed_reads}
+use Rattle.byte_fields.proofs.Numbers.{IsRun, byte_run_reads, run_reads, number_reads, signed_reads}
 use Rattle.byte_fields.proofs.Joined.{reads_as, checked_reads, both_reads, with_reads}
 use Rattle.byte_fields.proofs.Lists.{chained_reads, many_reads}
 use Rattle.value_core.specs.declared.val.Val.{Val}
+use Rattle.value_core.specs.Lawful.{is_lawful_address, is_lawful_blob, is_number}
 use Rattle.value_core.specs.Leaves.{IsNumber, is_text, is_blob, is_address}
 use Rattle.value_core.specs.Sound.{ascends, is_countable}
-use Rattle.value_codec.specs.Spelling.{word, signed_word, spell, spell_entry, is_number}
+use Rattle.value_core.proofs.LawfulLemmas.{all_small, small_all}
+use Rattle.value_codec.specs.Spelling.{word, signed_word, spell, spell_entry}
 use Rattle.value_codec.specs.Reading.{num, nat, mutez, measured, address, place, is_above, ascending, entries, value}
 use Rattle.value_codec.proofs.Numbers.{number_fits}
-use Rattle.value_codec.proofs.Levels.{IsGood, first_true, second_true}
+use Rattle.value_codec.proofs.Levels.{IsGood, both_true, first_true, second_true}
 use Rattle.value_codec.proofs.Ascending.{GoodNext, next_key, from_along, to_along}
 
 -- ---- numbers
@@ -59,11 +61,28 @@ measured_reads test short =
 pub text_reads : Reads (measured is_text) (λ bytes. word (length bytes) ++ bytes) (λ bytes. IsTrue (is_text bytes))
 text_reads = measured_reads is_text (λ bytes is. first_true (is_blob bytes) _ is)
 
-pub blob_reads : Reads (measured is_blob) (λ bytes. word (length bytes) ++ bytes) (λ bytes. IsTrue (is_blob bytes))
-blob_reads = measured_reads is_blob (λ bytes is. is)
+pub blob_reads : Reads (measured is_blob) (λ bytes. word (length bytes) ++ bytes) (λ bytes. IsTrue (is_lawful_blob bytes))
+blob_reads =
+    reads_as (λ bytes. word (length bytes) ++ bytes) (λ bytes. IsTrue (is_lawful_blob bytes))
+    (λ bytes good. (refl, both_true (is_blob bytes) _ good.1.1 (all_small bytes good.1.0.fits)))
+    (λ bytes is.
+    let short = first_true (is_blob bytes) _ is in
+    let run : IsRun (length bytes) bytes = record { len = refl; fits = small_all bytes (second_true (is_blob bytes) _ is) } in
+    ((omega (arith, leb-true (length bytes) 131071 short), short), (run, short)))
+    (with_reads (checked_reads (λ n. nat_le n 131071) (number_reads w32 (2 ^ 32) wide32)) (λ n. checked_reads is_blob (byte_run_reads n)) length (λ n bytes good. good.0.len))
 
-pub address_reads : Reads address (λ bytes. bytes) (λ bytes. IsTrue (is_address bytes))
-address_reads = reads_as (λ bytes. bytes) (λ bytes. IsTrue (is_address bytes)) (λ bytes good. (refl, good.1))
+pub address_reads : Reads address (λ bytes. bytes) (λ bytes. IsTrue (is_lawful_address bytes))
+address_reads = reads_as (λ bytes. bytes) (λ bytes. IsTrue (is_lawful_address bytes))
+    (λ bytes good. (refl, both_true (is_address bytes) _ good.1 (all_small bytes good.0.fits)))
+    (λ bytes is.
+    let one = first_true (is_address bytes) _ is in
+    let run : IsRun 22 bytes = record { len = eqb-true (length bytes) 22 (first_true (length bytes == 22) _ one); fits = small_all bytes (second_true (is_address bytes) _ is) } in
+    (run, one))
+    (checked_reads is_address (byte_run_reads 22))
+
+-- the same where the text alone is asked to be an address; what is read is bytes in any case
+pub any_address_reads : Reads address (λ bytes. bytes) (λ bytes. IsTrue (is_address bytes))
+any_address_reads = reads_as (λ bytes. bytes) (λ bytes. IsTrue (is_address bytes)) (λ bytes good. (refl, good.1))
     (λ bytes is. (eqb-true (length bytes) 22 (first_true (length bytes == 22) _ is), is)) (checked_reads is_address (run_reads 22))
 
 -- ---- lists, sets and maps
@@ -82,24 +101,24 @@ counted_reads {A} {items} {spell_all} {Good} Good' r to from =
     (λ all good. (ltb-true (length all) (2 ^ 32) good.0, from all good.1))
     (with_reads (number_reads w32 (2 ^ 32) wide32) r length (λ n all good. (to n all good).0))
 
-module _ (d : ℕ) (r : Reads (value d) spell (IsGood d)) where
-  pub list_reads : Reads (with (number w32) (many (value d))) (λ vs. word (length vs) ++ flat_map spell vs) (λ vs. IsTrue (is_countable vs) × AllByRecursion (IsGood d) vs)
-  list_reads = counted_reads (AllByRecursion (IsGood d)) (many_reads r) (λ n vs good. good) (λ vs good. (refl, good))
+module _ (most d : ℕ) (r : Reads (value most d) spell (IsGood most d)) where
+  pub list_reads : Reads (with (number w32) (many (value most d))) (λ vs. word (length vs) ++ flat_map spell vs) (λ vs. IsTrue (is_countable vs) × AllByRecursion (IsGood most d) vs)
+  list_reads = counted_reads (AllByRecursion (IsGood most d)) (many_reads r) (λ n vs good. good) (λ vs good. (refl, good))
 
-  pub set_reads : Reads (with (number w32) (ascending (value d) None)) (λ vs. word (length vs) ++ flat_map spell vs) (λ vs. IsTrue (is_countable vs) × (AllByRecursion (IsGood d) vs × IsTrue (ascends vs)))
-  set_reads = counted_reads (λ vs. AllByRecursion (IsGood d) vs × IsTrue (ascends vs))
-      (λ n. chained_reads {Good = GoodNext (λ v. v) (IsGood d)} (next_key (λ v. v) (IsGood d)) (λ last. checked_reads (is_above last) r) None n)
-      (λ n vs good. let up = from_along (λ v. v) (IsGood d) vs good.1 in (good.0, (up.0, sym (ap ascends (map-same vs)) ∙ up.1)))
-      (λ vs good. (refl, to_along (λ v. v) (IsGood d) vs good.0 (ap ascends (map-same vs) ∙ good.1)))
+  pub set_reads : Reads (with (number w32) (ascending (value most d) None)) (λ vs. word (length vs) ++ flat_map spell vs) (λ vs. IsTrue (is_countable vs) × (AllByRecursion (IsGood most d) vs × IsTrue (ascends vs)))
+  set_reads = counted_reads (λ vs. AllByRecursion (IsGood most d) vs × IsTrue (ascends vs))
+      (λ n. chained_reads {Good = GoodNext (λ v. v) (IsGood most d)} (next_key (λ v. v) (IsGood most d)) (λ last. checked_reads (is_above last) r) None n)
+      (λ n vs good. let up = from_along (λ v. v) (IsGood most d) vs good.1 in (good.0, (up.0, sym (ap ascends (map-same vs)) ∙ up.1)))
+      (λ vs good. (refl, to_along (λ v. v) (IsGood most d) vs good.0 (ap ascends (map-same vs) ∙ good.1)))
 
   abbrev pub GoodEntry : Val × Val → Type 0
-  GoodEntry e = IsGood d e.0 × IsGood d e.1
+  GoodEntry e = IsGood most d e.0 × IsGood most d e.1
 
-  entry_reads : (last : Option Val) → Reads (both (checked (is_above last) (value d)) (value d)) spell_entry (GoodNext (λ e. e.0) GoodEntry last)
+  entry_reads : (last : Option Val) → Reads (both (checked (is_above last) (value most d)) (value most d)) spell_entry (GoodNext (λ e. e.0) GoodEntry last)
   entry_reads last = reads_as spell_entry (GoodNext (λ e. e.0) GoodEntry last) (λ e good. (refl, ((good.0.0, good.1), good.0.1))) (λ e good. ((good.0.0, good.1), good.0.1))
       (both_reads (checked_reads (is_above last) r) r)
 
-  pub map_reads : Reads (with (number w32) (entries (value d) None)) (λ es. word (length es) ++ flat_map spell_entry es)
+  pub map_reads : Reads (with (number w32) (entries (value most d) None)) (λ es. word (length es) ++ flat_map spell_entry es)
       (λ es. IsTrue (is_countable es) × (AllByRecursion GoodEntry es × IsTrue (ascends (map (λ e. e.0) es))))
   map_reads = counted_reads (λ es. AllByRecursion GoodEntry es × IsTrue (ascends (map (λ e. e.0) es)))
       (λ n. chained_reads {Good = GoodNext (λ e. e.0) GoodEntry} (next_key (λ e. e.0) GoodEntry) entry_reads None n)

@@ -1,7 +1,7 @@
--- The bytes of each variant, and what stands in it.
+-- The bytes of each variant.
 use Rattle.std.proofs.Common.{◌≡◌, ℕ, ℤ, Bool, true, false, cond, List, [], ◌∷◌, ◌++◌, length, map, refl, sym, ap, ◌∙◌, append_assoc}
 use Rattle.std.specs.Prelude.{◌&&◌}
-use Rattle.std.specs.List.{flat_map, list_all}
+use Rattle.std.specs.List.{flat_map}
 use Rattle.std.specs.Int.{w8, w64, to_be_bytes}
 use Rattle.std.proofs.lemmas.List.{length-map, append-nil}
 use Rattle.std.proofs.lemmas.List.Concat.{flat_map-cons}
@@ -9,11 +9,8 @@ use Rattle.value_core.specs.declared.val.Val.{Val}
 use Rattle.value_core.specs.declared.val.Emit.{Emit}
 use Rattle.value_core.specs.declared.val.Val.TheVariants as variant
 use Rattle.value_core.specs.declared.val.Val.TheOpen as one
-use Rattle.value_core.specs.Layer.{flat}
-use Rattle.value_core.specs.Leaves.{is_text, is_blob, is_address}
 use Rattle.value_core.proofs.Levels.{by_level-roll}
-use Rattle.std.proofs.lemmas.List.Folds.{list_all-map}
-use Rattle.value_codec.specs.Spelling.{word, signed_word, spell, spell_level, spell_entry, is_number, leaf_level, has_leaves, has_entry_leaves}
+use Rattle.value_codec.specs.Spelling.{word, signed_word, spell, spell_level, spell_entry}
 
 -- ---- the spelling
 
@@ -96,73 +93,4 @@ spell_contract address entry = ap spell (sym (variant.rolls-Contract address ent
 pub spell_operation : (emit : Emit) → spell (variant.Operation emit) ≡ []
 spell_operation emit = ap spell (sym (variant.rolls-Operation emit)) ∙ by_level-roll spell_level (one.Operation emit)
 
--- ---- what stands in it
-
-pub all_mapped : (vs : List Val) → list_all (λ part. part) (map has_leaves vs) ≡ list_all has_leaves vs
-all_mapped = list_all-map (λ part. part) has_leaves
-
-leaves_flat : (es : List (Val × Val)) → list_all (λ part. part) (flat (map (λ e. (has_leaves e.0, has_leaves e.1)) es)) ≡ list_all has_entry_leaves es
-leaves_flat [] = refl
-leaves_flat (e ∷ es) = ap (λ b. has_leaves e.0 && (has_leaves e.1 && b)) (leaves_flat es) ∙ sym (and_assoc (has_leaves e.0) (has_leaves e.1) _)
-
-pub leaves_unit : has_leaves variant.Unit ≡ true
-leaves_unit = ap has_leaves (sym variant.rolls-Unit) ∙ by_level-roll leaf_level one.Unit
-
-pub leaves_bool : (b : Bool) → has_leaves (variant.Bool b) ≡ true
-leaves_bool b = ap has_leaves (sym (variant.rolls-Bool b)) ∙ by_level-roll leaf_level (one.Bool b)
-
-pub leaves_int : (n : ℤ) → has_leaves (variant.Int n) ≡ is_number n
-leaves_int n = ap has_leaves (sym (variant.rolls-Int n)) ∙ by_level-roll leaf_level (one.Int n)
-
-pub leaves_nat : (n : ℤ) → has_leaves (variant.Nat n) ≡ is_number n
-leaves_nat n = ap has_leaves (sym (variant.rolls-Nat n)) ∙ by_level-roll leaf_level (one.Nat n)
-
-pub leaves_mutez : (n : ℕ) → has_leaves (variant.Mutez n) ≡ true
-leaves_mutez n = ap has_leaves (sym (variant.rolls-Mutez n)) ∙ by_level-roll leaf_level (one.Mutez n)
-
-pub leaves_time : (n : ℤ) → has_leaves (variant.Time n) ≡ is_number n
-leaves_time n = ap has_leaves (sym (variant.rolls-Time n)) ∙ by_level-roll leaf_level (one.Time n)
-
-pub leaves_text : (bytes : List ℕ) → has_leaves (variant.Text bytes) ≡ is_text bytes
-leaves_text bytes = ap has_leaves (sym (variant.rolls-Text bytes)) ∙ by_level-roll leaf_level (one.Text bytes)
-
-pub leaves_bytes : (bytes : List ℕ) → has_leaves (variant.Bytes bytes) ≡ is_blob bytes
-leaves_bytes bytes = ap has_leaves (sym (variant.rolls-Bytes bytes)) ∙ by_level-roll leaf_level (one.Bytes bytes)
-
-pub leaves_addr : (address : List ℕ) → has_leaves (variant.Addr address) ≡ is_address address
-leaves_addr address = ap has_leaves (sym (variant.rolls-Addr address)) ∙ by_level-roll leaf_level (one.Addr address)
-
-pub leaves_nothing : has_leaves variant.Nothing ≡ true
-leaves_nothing = ap has_leaves (sym variant.rolls-Nothing) ∙ by_level-roll leaf_level one.Nothing
-
-pub leaves_some : (part : Val) → has_leaves (variant.Some part) ≡ has_leaves part
-leaves_some part = ap has_leaves (sym (variant.rolls-Some part)) ∙ by_level-roll leaf_level (one.Some part) ∙ and_true (has_leaves part)
-
-pub leaves_left : (part : Val) → has_leaves (variant.Left part) ≡ has_leaves part
-leaves_left part = ap has_leaves (sym (variant.rolls-Left part)) ∙ by_level-roll leaf_level (one.Left part) ∙ and_true (has_leaves part)
-
-pub leaves_right : (part : Val) → has_leaves (variant.Right part) ≡ has_leaves part
-leaves_right part = ap has_leaves (sym (variant.rolls-Right part)) ∙ by_level-roll leaf_level (one.Right part) ∙ and_true (has_leaves part)
-
-pub leaves_pair : (a b : Val) → has_leaves (variant.Pair a b) ≡ (has_leaves a && has_leaves b)
-leaves_pair a b = ap has_leaves (sym (variant.rolls-Pair a b)) ∙ by_level-roll leaf_level (one.Pair a b) ∙ ap (λ c. has_leaves a && c) (and_true (has_leaves b))
-
-pub leaves_list : (items : List Val) → has_leaves (variant.List items) ≡ list_all has_leaves items
-leaves_list items = ap has_leaves (sym (variant.rolls-List items)) ∙ by_level-roll leaf_level (one.List items) ∙ all_mapped items
-
-pub leaves_set : (items : List Val) → has_leaves (variant.Set items) ≡ list_all has_leaves items
-leaves_set items = ap has_leaves (sym (variant.rolls-Set items)) ∙ by_level-roll leaf_level (one.Set items) ∙ all_mapped items
-
-pub leaves_map : (entries : List (Val × Val)) → has_leaves (variant.Map entries) ≡ list_all has_entry_leaves entries
-leaves_map entries = ap has_leaves (sym (variant.rolls-Map entries)) ∙ by_level-roll leaf_level (one.Map entries) ∙ leaves_flat entries
-
-pub leaves_big_map : (place version : ℕ) → has_leaves (variant.BigMap place version) ≡ true
-leaves_big_map place version = ap has_leaves (sym (variant.rolls-BigMap place version)) ∙ by_level-roll leaf_level (one.BigMap place version)
-
-pub leaves_contract : (address entry : List ℕ) → has_leaves (variant.Contract address entry) ≡ true
-leaves_contract address entry = ap has_leaves (sym (variant.rolls-Contract address entry)) ∙ by_level-roll leaf_level (one.Contract address entry)
-
-pub leaves_operation : (emit : Emit) → has_leaves (variant.Operation emit) ≡ true
-leaves_operation emit = ap has_leaves (sym (variant.rolls-Operation emit)) ∙ by_level-roll leaf_level (one.Operation emit)
-
-pub ruleset spellings = (append-nil, append_assoc, spell_unit, spell_bool, spell_int, spell_nat, spell_mutez, spell_time, spell_text, spell_bytes, spell_addr, spell_nothing, spell_some, spell_left, spell_right, spell_pair, spell_list, spell_set, spell_map, spell_big_map, spell_contract, spell_operation, leaves_unit, leaves_bool, leaves_int, leaves_nat, leaves_mutez, leaves_time, leaves_text, leaves_bytes, leaves_addr, leaves_nothing, leaves_some, leaves_left, leaves_right, leaves_pair, leaves_list, leaves_set, leaves_map, leaves_big_map, leaves_contract, leaves_operation)
+pub ruleset spellings = (append-nil, append_assoc, spell_unit, spell_bool, spell_int, spell_nat, spell_mutez, spell_time, spell_text, spell_bytes, spell_addr, spell_nothing, spell_some, spell_left, spell_right, spell_pair, spell_list, spell_set, spell_map, spell_big_map, spell_contract, spell_operation)

@@ -1,7 +1,6 @@
 -- One turn of each loop of the reader, and the reader at its tag.
 use Rattle.std.proofs.Common.{◌≡◌, ℕ, zero, suc, ◌+◌, ◌-◌, ◌≤◌, ◌<◌, true, List, [], ◌∷◌, ◌++◌, Some, Ok, refl, sym, ap, arith}
 use Rattle.std.specs.Int.{w8}
-use Rattle.std.proofs.lemmas.Bool.{le-leb}
 use Rattle.byte_fields.specs.Readers.{Read, Reader, after, checked, number, many}
 use Rattle.byte_fields.proofs.Loops.{with_front, goes_on}
 use Rattle.value_core.specs.declared.val.Val.{Val}
@@ -29,10 +28,10 @@ one_entry read front count i bytes k v mid rest total lt was above second so_far
     (rw (was, above, second) refl) (sym (last_key-more front (k, v))) so_far
 
 -- what is read is what stands behind the tag
-pub value_is : (d : ℕ) (bytes : List ℕ) (t : ℕ) (rest : List ℕ) → (d ≡ 0 → ⊥) → number w8 bytes ≡ Ok (t, rest) → t ≤ 18 → value d bytes ≡ behind (value (d - 1)) t rest
+pub value_is : (most d : ℕ) (bytes : List ℕ) (t : ℕ) (rest : List ℕ) → (d ≡ 0 → ⊥) → number w8 bytes ≡ Ok (t, rest) → is_tag most t ≡ true → value most d bytes ≡ behind (value most (d - 1)) t rest
 unfolding value
-value_is zero bytes t rest deep was small = absurd (deep refl)
-value_is (suc d) bytes t rest deep was small =
+value_is most zero bytes t rest deep was stands = absurd (deep refl)
+value_is most (suc d) bytes t rest deep was stands =
     let below : suc d - 1 ≡ d = omega arith in
-    let one : checked is_tag (number w8) bytes ≡ Ok (t, rest) = rw (was, le-leb t 18 small) refl in
-    rw below (ap (λ (y : Read ℕ). after y (behind (value d))) one)
+    let one : checked (is_tag most) (number w8) bytes ≡ Ok (t, rest) = rw (was, stands) refl in
+    rw below (ap (λ (y : Read ℕ). after y (behind (value most d))) one)

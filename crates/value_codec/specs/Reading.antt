@@ -1,13 +1,14 @@
 -- Reading values: which bytes are read, and where the fault of others is.
-use Rattle.std.specs.Prelude.{ℕ, zero, suc, ℤ, pos, ◌^◌, List, length, Bool, true, false, Option, Some, None, Err, nat_lt, nat_le, int_le, ◌==◌, if◌then◌else◌}
+use Rattle.std.specs.Prelude.{ℕ, zero, suc, ℤ, pos, ◌^◌, ◌&&◌, List, length, Bool, true, false, Option, Some, None, Err, nat_lt, nat_le, int_le, ◌==◌, if◌then◌else◌}
 use Rattle.std.specs.Int.{w8, w32, w64, w128}
 use Rattle.std.specs.Ordering.{is_lt}
+use Rattle.byte_fields.specs.Stops.{Faulty, Stopped}
 use Rattle.byte_fields.specs.Readers.{Reader, given, made, both, with, checked, chained, many, run, number, signed, tagged}
 use Rattle.value_core.specs.declared.val.Val.{Val}
 use Rattle.value_core.specs.declared.val.Val.TheVariants as variant
+use Rattle.value_core.specs.Lawful.{is_number}
 use Rattle.value_core.specs.Leaves.{is_text, is_blob, is_address}
 use Rattle.value_core.specs.Order.{order}
-use Rattle.value_codec.specs.Spelling.{is_number}
 
 -- a number in sixteen bytes
 abbrev pub num : Reader ℤ
@@ -50,9 +51,9 @@ ascending read = chained (λ last. checked (is_above last) read) (λ last v. Som
 abbrev pub entries : Reader Val → Option Val → ℕ → Reader (List (Val × Val))
 entries read = chained (λ last. both (checked (is_above last) read) read) (λ last e. Some e.0)
 
--- the tags of values
-abbrev pub is_tag : ℕ → Bool
-is_tag t = nat_le t 18
+-- the tags of values, up to the greatest that may stand
+abbrev pub is_tag : ℕ → ℕ → Bool
+is_tag most t = nat_le t most && nat_le t 18
 
 -- what stands behind each tag, where each part is read by `read`
 abbrev pub behind : Reader Val → ℕ → Reader Val
@@ -76,9 +77,9 @@ behind read t =
     if t == 16 then made variant.Set (with (number w32) (ascending read None)) else
     if t == 17 then made variant.Map (with (number w32) (entries read None)) else
     if t == 18 then made (λ n. variant.BigMap n 0) place else
-    λ bytes. Err (length bytes)
+    λ bytes. Err (Stopped Faulty (length bytes))
 
--- a value at most d deep: the first part that is deeper is told at its tag
-unfoldable pub value : ℕ → Reader Val
-value zero bytes = Err (length bytes)
-value (suc d) bytes = tagged is_tag (behind (value d)) bytes
+-- a value with no tag above most, and at most d deep: the first part that is deeper, or has a greater tag, is told at its tag
+unfoldable pub value : ℕ → ℕ → Reader Val
+value most zero bytes = Err (Stopped Faulty (length bytes))
+value most (suc d) bytes = tagged (is_tag most) (behind (value most d)) bytes

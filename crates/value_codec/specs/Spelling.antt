@@ -1,11 +1,12 @@
 -- The bytes of values: which they are, and which values have any.
-use Rattle.std.specs.Prelude.{ℕ, ℤ, pos, negsuc, ◌≤◌, ◌-◌, ◌^◌, List, [], ◌∷◌, ◌++◌, Bool, true, ◌&&◌, if◌then◌else◌, IsTrue, int_le, length}
-use Rattle.std.specs.List.{flat_map, list_all}
+use Rattle.std.specs.Prelude.{ℕ, ℤ, ◌≤◌, List, [], ◌∷◌, ◌++◌, Bool, if◌then◌else◌, IsTrue, nat_le, length}
+use Rattle.std.specs.List.{flat_map}
 use Rattle.std.specs.Int.{w8, w32, w64, w128, to_be_bytes, cast_unsigned}
 use Rattle.value_core.specs.declared.val.Val.{Val}
 use Rattle.value_core.specs.declared.val.Val.TheOpen as one
-use Rattle.value_core.specs.Layer.{Layer, by_level, parts_of}
-use Rattle.value_core.specs.Leaves.{is_text, is_blob, is_address}
+use Rattle.value_core.specs.Layer.{Layer, by_level, tag_of}
+use Rattle.value_core.specs.Everywhere.{everywhere}
+use Rattle.value_core.specs.Lawful.{is_lawful}
 use Rattle.value_core.specs.Sound.{is_plain}
 use Rattle.value_core.specs.Depth.{depth_of}
 
@@ -56,31 +57,13 @@ spell_entry e = spell e.0 ++ spell e.1
 
 -- ---- which values have one
 
--- above -2^127 and below 2^127
-abbrev pub is_number : ℤ → Bool
-is_number n = int_le (negsuc (2 ^ 127 - 2)) n && int_le n (pos (2 ^ 127 - 1))
+-- no level of it has a greater tag
+abbrev pub has_tags : ℕ → Val → Bool
+has_tags most = everywhere (λ x. nat_le (tag_of x) most)
 
--- one level of a value, whose parts say whether what stands in them keeps the rules of its type; operations have no spelling
-abbrev pub leaf_level : Layer Bool → Bool
-leaf_level (one.Int n) = is_number n
-leaf_level (one.Nat n) = is_number n
-leaf_level (one.Time n) = is_number n
-leaf_level (one.Text bytes) = is_text bytes
-leaf_level (one.Bytes bytes) = is_blob bytes
-leaf_level (one.Addr address) = is_address address
-leaf_level (one.Operation emit) = true
-leaf_level x = list_all (λ part. part) (parts_of x)
-
--- its numbers, texts, bytes and addresses are what the program can hold
-abbrev pub has_leaves : Val → Bool
-has_leaves = by_level leaf_level
-
--- the same of a key and its value
-abbrev pub has_entry_leaves : Val × Val → Bool
-has_entry_leaves e = has_leaves e.0 && has_leaves e.1
-
--- a plain value, at most so deep, has a spelling
-pub record IsSpelt (most : ℕ) (v : Val) : Type 0 where
-  pub leaves : IsTrue (has_leaves v)
+-- a plain value that the program can hold, with no tag above most, and at most so deep, has a spelling
+pub record IsSpelt (most depth : ℕ) (v : Val) : Type 0 where
+  pub leaves : IsTrue (is_lawful v)
   pub plain : IsTrue (is_plain v)
-  pub deep : depth_of v ≤ most
+  pub tags : IsTrue (has_tags most v)
+  pub deep : depth_of v ≤ depth

@@ -2,7 +2,8 @@ ghost use Rattle.std.specs.Prelude.{◌≤◌, IfOk, IsTrue};
 ghost use Rattle.value_core.specs.Depth.{depth_of};
 ghost use Rattle.value_core.specs.Sound.{is_plain};
 
-use crate::{At, FieldFault, read_val, write_val};
+use crate::{ANY_VALUE, At, FieldFault, KEY_VALUE, PASSED_VALUE, read_val, value_at, write_val};
+use byte_fields::ReadStop;
 use std::alloc::{AllocError, Global};
 use std::test::Fail;
 use value_core::{Num, Text, Val, pair};
@@ -34,6 +35,36 @@ fn a_pair_is_written_and_read_again(rt: HostRuntime) -> Result<(), Fail> {
     Ok(())
 }
 
+/// What is written of the value that stands in front of the bytes.
+fn written_again(alloc: Global, bytes: &[u8]) -> Result<Vec<u8>, Fail> {
+    let (value, _) = read_val(alloc, bytes, 0)?;
+    let mut out = Vec::new(alloc);
+    write_val(alloc, &value, &mut out)?;
+    Ok(out)
+}
+
+#[test]
+fn a_value_128_deep_is_read_and_written(rt: HostRuntime) -> Result<(), Fail> {
+    let mut deep = vec![in rt.alloc(); 0x0b; 127]?;
+    deep.push(0)?;
+    assert_eq!(rt;
+        written_again(rt.alloc(), &deep)?.as_slice(),
+        deep.as_slice()
+    );
+    Ok(())
+}
+
+#[test]
+fn a_text_of_131071_bytes_is_read_and_written(rt: HostRuntime) -> Result<(), Fail> {
+    let mut text = vec![in rt.alloc(); 0x61; 131_076]?;
+    text[..5].copy_from_slice(&[0x07, 0, 1, 0xff, 0xff]);
+    assert_eq!(rt;
+        written_again(rt.alloc(), &text)?.as_slice(),
+        text.as_slice()
+    );
+    Ok(())
+}
+
 #[test]
 fn the_first_fault_is_told_at_its_place(rt: HostRuntime) -> Result<(), Fail> {
     let deep = vec![in rt.alloc(); 0x0b; 129]?;
@@ -61,6 +92,18 @@ fn the_first_fault_is_told_at_its_place(rt: HostRuntime) -> Result<(), Fail> {
             matches!(told, Err(FieldFault::At(At(at))) if at == place),
             "{bytes:?}"
         );
+    }
+    Ok(())
+}
+
+#[test]
+fn a_tag_that_may_not_stand_is_told_where_it_stands(rt: HostRuntime) -> Result<(), Fail> {
+    // a pair whose second part is a big map
+    let bytes = [0x0e, 0x00, 0x12, 0x00];
+    assert!(rt; value_at(rt.alloc(), ANY_VALUE, 2, &bytes).is_ok());
+    for most in [PASSED_VALUE, KEY_VALUE] {
+        let told = value_at(rt.alloc(), most, 2, &bytes);
+        assert!(rt; matches!(told, Err(ReadStop::Left(2))));
     }
     Ok(())
 }

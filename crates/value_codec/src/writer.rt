@@ -2,15 +2,15 @@
 
 ghost use Rattle.std.specs.Prelude.{◌≡◌, ◌≤◌, ◌++◌, ◌∷◌, [], OnOk, OnErr, IsTrue};
 ghost use Rattle.std.specs.Int.{w8, w64, to_be_bytes};
-ghost use Rattle.std.specs.List.{flat_map, list_all};
-ghost use Rattle.value_core.specs.Leaves.{is_address};
+ghost use Rattle.std.specs.List.{flat_map};
 ghost use Rattle.value_core.specs.Sound.{is_plain};
 ghost use Rattle.value_core.specs.Depth.{depth_of};
-ghost use Rattle.value_codec.specs.Spelling.{word, measured_text, signed_word, spell, spell_entry, is_number, has_leaves, has_entry_leaves, IsSpelt};
+ghost use Rattle.value_codec.specs.Spelling.{word, measured_text, signed_word, spell, spell_entry, IsSpelt};
 
+use crate::tag::ANY_VALUE;
 use byte_fields::Draft;
 use std::alloc::Global;
-use value_core::{Address, NoMemory, Num, Val};
+use value_core::{Address, NoMemory, Num, Val, leaves_are_lawful};
 
 /// Appends the spelling of the value.
 pub fn write_val(alloc: Global, v: &Val, out: &mut Vec<u8>) -> Result<(), NoMemory>
@@ -18,7 +18,7 @@ pub fn write_val(alloc: Global, v: &Val, out: &mut Vec<u8>) -> Result<(), NoMemo
     requires deep { depth_of v.now ≤ 128 }
     ensures written { OnOk result (out.new.items ≡ out.old.items ++ spell v.now) }
     // So `read_val` reads it again, whatever follows.
-    ensures spelt { OnOk result (IsSpelt 128 v.now) }
+    ensures spelt { OnOk result (IsSpelt ANY_VALUE 128 v.now) }
     ensures unchanged { OnErr result (out.new.items ≡ out.old.items) }
 {
     let mut draft = Draft::on(alloc, out);
@@ -26,12 +26,23 @@ pub fn write_val(alloc: Global, v: &Val, out: &mut Vec<u8>) -> Result<(), NoMemo
     draft.close(done, out)
 }
 
-/// Adds the spelling of the value to a draft; contracts and operations have none.
+/// Adds the spelling of the value to a draft.
+pub fn put_val(v: &Val, draft: &mut Draft) -> Result<(), NoMemory>
+    requires plain { IsTrue (is_plain v.now) }
+    requires deep { depth_of v.now ≤ 128 }
+    ensures added { OnOk result (draft.new.added ≡ draft.old.added ++ spell v.now) }
+    ensures spelt { OnOk result (IsSpelt ANY_VALUE 128 v.now) }
+    ensures before { draft.new.before ≡ draft.old.before }
+{
+    leaves_are_lawful(v);
+    put(v, draft)
+}
+
+/// Adds the spelling of any value; contracts and operations have none.
 #[cycle(writing)]
 #[tactic(auto, using(crate::proofs::Spelt::spellings))]
-pub fn put_val(v: &Val, draft: &mut Draft) -> Result<(), NoMemory>
+fn put(v: &Val, draft: &mut Draft) -> Result<(), NoMemory>
     ensures added { OnOk result (draft.new.added ≡ draft.old.added ++ spell v.now) }
-    ensures leaves { OnOk result (IsTrue (has_leaves v.now)) }
     ensures before { draft.new.before ≡ draft.old.before }
 {
     match v {
@@ -47,20 +58,20 @@ pub fn put_val(v: &Val, draft: &mut Draft) -> Result<(), NoMemory>
         Val::Nothing => draft.put_u8(10),
         Val::Some(part) => {
             draft.put_u8(11)?;
-            put_val(part.get(), draft)
+            put(part.get(), draft)
         }
         Val::Left(part) => {
             draft.put_u8(12)?;
-            put_val(part.get(), draft)
+            put(part.get(), draft)
         }
         Val::Right(part) => {
             draft.put_u8(13)?;
-            put_val(part.get(), draft)
+            put(part.get(), draft)
         }
         Val::Pair(a, b) => {
             draft.put_u8(14)?;
-            put_val(a.get(), draft)?;
-            put_val(b.get(), draft)
+            put(a.get(), draft)?;
+            put(b.get(), draft)
         }
         Val::List(items) => {
             put_head(15, items.len(), draft)?;
@@ -82,31 +93,29 @@ pub fn put_val(v: &Val, draft: &mut Draft) -> Result<(), NoMemory>
 #[cycle(writing)]
 fn put_items(items: &[Val], draft: &mut Draft) -> Result<(), NoMemory>
     ensures added { OnOk result (draft.new.added ≡ draft.old.added ++ flat_map spell items.now) }
-    ensures leaves { OnOk result (IsTrue (list_all has_leaves items.now)) }
     ensures before { draft.new.before ≡ draft.old.before }
 {
     for item in items {
-        put_val(item, draft)?;
+        put(item, draft)?;
     }
     Ok(())
 }
 
 #[cycle(writing)]
 fn put_entries(entries: &[(Val, Val)], draft: &mut Draft) -> Result<(), NoMemory>
-    ensures added { OnOk result (draft.new.added ≡ draft.old.added ++ flat_map spell_entry entries.now) }
-    ensures leaves { OnOk result (IsTrue (list_all has_entry_leaves entries.now)) }
+    ensures added { OnOk result (draft.new.added ≡ draft.old.added
+        ++ flat_map spell_entry entries.now) }
     ensures before { draft.new.before ≡ draft.old.before }
 {
     for entry in entries {
-        put_val(&entry.0, draft)?;
-        put_val(&entry.1, draft)?;
+        put(&entry.0, draft)?;
+        put(&entry.1, draft)?;
     }
     Ok(())
 }
 
 fn put_num(tag: u8, n: Num, draft: &mut Draft) -> Result<(), NoMemory>
     ensures added { OnOk result (draft.new.added ≡ draft.old.added ++ tag ∷ signed_word n) }
-    ensures number { IsTrue (is_number n) }
     ensures before { draft.new.before ≡ draft.old.before }
 {
     let number = n.get();
@@ -123,7 +132,8 @@ fn put_mutez(n: u64, draft: &mut Draft) -> Result<(), NoMemory>
 }
 
 fn put_run(tag: u8, bytes: &[u8], draft: &mut Draft) -> Result<(), NoMemory>
-    ensures added { OnOk result (draft.new.added ≡ draft.old.added ++ tag ∷ measured_text bytes.now) }
+    ensures added { OnOk result (draft.new.added ≡ draft.old.added
+        ++ tag ∷ measured_text bytes.now) }
     ensures before { draft.new.before ≡ draft.old.before }
 {
     put_head(tag, bytes.len(), draft)?;
@@ -132,7 +142,6 @@ fn put_run(tag: u8, bytes: &[u8], draft: &mut Draft) -> Result<(), NoMemory>
 
 fn put_address(address: &Address, draft: &mut Draft) -> Result<(), NoMemory>
     ensures added { OnOk result (draft.new.added ≡ draft.old.added ++ 9 ∷ address.now) }
-    ensures address { IsTrue (is_address address.now) }
     ensures before { draft.new.before ≡ draft.old.before }
 {
     let bytes = address.bytes();

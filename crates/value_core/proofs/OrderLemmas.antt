@@ -77,6 +77,18 @@ order_operations d e = order_of_levels _ _ _ _ (shows_operation d) (shows_operat
     (ordering_then (then_equal (slice_cmp nat_cmp d.entry e.entry) i)
     (ordering_then (then_equal (order d.param e.param) i) (nat_cmp d.amount e.amount))))
 
+shows_pair : (x y : Val) → out-Val (variant.Pair x y) ≡ one.Pair x y
+shows_pair x y = search (rules, the_lemmas)
+
+order_pairs : (x y z w : Val) → order (variant.Pair x y) (variant.Pair z w) ≡ ordering_then (order x z) (order y w)
+order_pairs x y z w = order_of_levels _ _ _ _ (shows_pair x y) (shows_pair z w)
+    ∙ then_equal (ordering_then (order x z) (ordering_then (order y w) Equal))
+    ∙ ap (ordering_then (order x z)) (then_equal (order y w))
+
+-- behind first parts that tie
+pub order_behind : (a b x y z w : Val) → a ≡ variant.Pair x y → b ≡ variant.Pair z w → order x z ≡ Equal → order a b ≡ order y w
+order_behind a b x y z w p q tied = (λ i. order (p i) (q i)) ∙ order_pairs x y z w ∙ (λ i. ordering_then (tied i) (order y w))
+
 -- ---- where the shorter list has ended, the lengths decide
 
 less_zero : (n : ℕ) → Less ≡ nat_cmp 0 (suc n)

@@ -1,10 +1,11 @@
--- Soundness of lists, sets and maps, and the order of what is left of them.
+-- Soundness of lists, sets, maps and pairs, and the order of what is left of lists.
 use Rattle.std.proofs.Common.{◌≡◌, ℕ, zero, suc, ◌+◌, ◌<◌, ◌≤◌, List, [], ◌∷◌, map, length, drop, get_or, true, refl, ap, sym, ◌∙◌, arith}
 use Rattle.std.specs.Prelude.{◌&&◌}
+use Rattle.std.proofs.Math.Bool.{and-true}
 use Rattle.std.specs.Ordering.{is_lt}
 use Rattle.value_core.specs.declared.val.Val.{Val}
 use Rattle.value_core.specs.declared.val.Val.TheVariants as variant
-use Rattle.value_core.specs.declared.val.Val.TheVariants.{rolls-List, rolls-Set, rolls-Map}
+use Rattle.value_core.specs.declared.val.Val.TheVariants.{rolls-List, rolls-Set, rolls-Map, rolls-Pair}
 use Rattle.value_core.specs.declared.val.Val.TheOpen as one
 use Rattle.value_core.specs.Order.{order}
 use Rattle.value_core.specs.Sound.{ascends, is_sound, is_sound_level}
@@ -19,6 +20,14 @@ sound-set vs = ap is_sound (sym (rolls-Set vs)) ∙ everywhere-roll is_sound_lev
 
 pub sound-map : (es : List (Val × Val)) → is_sound (variant.Map es) ≡ is_sound_map es
 sound-map es = ap is_sound (sym (rolls-Map es)) ∙ everywhere-roll is_sound_level (one.Map es)
+
+pub sound-pair : (a b : Val) → is_sound (variant.Pair a b) ≡ (is_sound a && is_sound b)
+sound-pair a b =
+    ap is_sound (sym (rolls-Pair a b)) ∙ everywhere-roll is_sound_level (one.Pair a b) ∙ ap (λ rest. is_sound a && rest) (and-true (is_sound b))
+
+-- behind a sound first part
+pub sound-behind : (v a b : Val) → v ≡ variant.Pair a b → is_sound a ≡ true → is_sound v ≡ is_sound b
+sound-behind v a b is first = ap is_sound is ∙ sound-pair a b ∙ ap (λ s. s && is_sound b) first
 
 -- ---- one value after another
 

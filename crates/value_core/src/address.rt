@@ -4,6 +4,7 @@ ghost use Rattle.std.specs.Prelude.{◌≡◌, ◌≢◌, ◌↔◌, IsTrue, len
 ghost use Rattle.value_core.specs.Leaves.{is_address};
 ghost use Rattle.value_core.specs.Addresses.{IsAnswer};
 
+use std::cmp::Ordering;
 use std::marker::Model;
 
 /// 22 bytes, the first 0 for an implicit account and 1 for a contract.
@@ -63,5 +64,41 @@ impl Address {
         ensures address { IsTrue (is_address self.now) }
     {
         &self.bytes
+    }
+}
+
+impl PartialOrd for Address {
+    ghost use Rattle.std.specs.Prelude.{Some};
+    ghost use Rattle.std.specs.Ordering.{nat_cmp};
+    ghost use Rattle.std.specs.Cmp.{po};
+    ghost use Rattle.std.specs.Cmp.Lexicographic.{nat_list_cmp_total, slice_cmp};
+    ghost use Rattle.value_core.specs.BytesOrder.{bytes_tie};
+
+    ghost partial_cmp = { λ a b. Some (slice_cmp nat_cmp a b) };
+
+    ghost laws = { po nat_list_cmp_total bytes_tie };
+
+    fn partial_cmp(&self, other: &Address) -> Option<Ordering> {
+        Some(self.cmp(other))
+    }
+}
+
+/// Addresses go by their bytes.
+impl Ord for Address {
+    ghost use Rattle.std.specs.Prelude.{refl};
+    ghost use Rattle.std.specs.Ordering.{nat_cmp};
+    ghost use Rattle.std.specs.Cmp.Lexicographic.{nat_list_cmp_total, slice_cmp};
+    ghost use Rattle.value_core.specs.BytesOrder.{bytes_tie};
+
+    ghost cmp = { slice_cmp nat_cmp };
+
+    ghost total = { nat_list_cmp_total };
+
+    ghost matches_partial_cmp = { λ a b. refl };
+
+    ghost matches_eq = { bytes_tie };
+
+    fn cmp(&self, other: &Address) -> Ordering {
+        self.bytes.as_slice().cmp(other.bytes.as_slice())
     }
 }

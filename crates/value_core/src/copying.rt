@@ -3,7 +3,7 @@
 ghost use Rattle.std.specs.Prelude.{◌≡◌, IfOk};
 
 use crate::memory::NoMemory;
-use crate::val::{Emit, Val, left, operation, pair, right, some};
+use crate::val::{Emit, Val, comb, left, operation, pair, right, some};
 use sqlite_items::Items;
 use std::alloc::Global;
 
@@ -27,7 +27,7 @@ impl Val {
             Val::Some(part) => some(alloc, part.get().copy(alloc)?),
             Val::Left(part) => left(alloc, part.get().copy(alloc)?),
             Val::Right(part) => right(alloc, part.get().copy(alloc)?),
-            Val::Pair(a, b) => pair(alloc, a.get().copy(alloc)?, b.get().copy(alloc)?),
+            Val::Pair(first, rest) => copy_comb(alloc, first.get(), rest.get()),
             Val::List(items) => Ok(Val::List(copy_all(alloc, items.as_slice())?)),
             Val::Set(items) => Ok(Val::Set(copy_all(alloc, items.as_slice())?)),
             Val::Map(entries) => Ok(Val::Map(copy_entries(alloc, entries.as_slice())?)),
@@ -54,6 +54,22 @@ impl Emit {
             amount: self.amount,
         })
     }
+}
+
+// The pair of the copies of two values; the first parts of a comb wait in a list for its last one.
+#[cycle(copying)]
+fn copy_comb(alloc: Global, first: &Val, rest: &Val) -> Result<Val, NoMemory>
+    ensures { IfOk result (λ v. v ≡ Val.Pair first.now rest.now) }
+{
+    let mut firsts = Items::new(alloc);
+    let (mut left, mut right) = (first, rest);
+    while let Val::Pair(next, behind) = right {
+        firsts.push(left.copy(alloc)?)?;
+        left = next.get();
+        right = behind.get();
+    }
+    let last = pair(alloc, left.copy(alloc)?, right.copy(alloc)?)?;
+    comb(alloc, firsts, last)
 }
 
 #[cycle(copying)]

@@ -9,21 +9,27 @@ use crate::ty::Ty;
 pub fn is_passable(t: &Ty) -> bool
     ensures { result ≡ is_passable t.now }
 {
-    match t {
-        Ty::Option(t) | Ty::List(t) | Ty::Set(t) => is_passable(t.get()),
-        Ty::Or(s, t) | Ty::Pair(s, t) | Ty::Map(s, t) => {
-            is_passable(s.get()) && is_passable(t.get())
+    let mut t = t;
+    loop {
+        match t {
+            Ty::Option(part) | Ty::List(part) | Ty::Set(part) => t = part.get(),
+            Ty::Or(first, rest) | Ty::Pair(first, rest) | Ty::Map(first, rest) => {
+                if !is_passable(first.get()) {
+                    return false;
+                }
+                t = rest.get();
+            }
+            Ty::BigMap(_, _) | Ty::Contract(_) | Ty::Operation => return false,
+            Ty::Unit
+            | Ty::Bool
+            | Ty::Int
+            | Ty::Nat
+            | Ty::Mutez
+            | Ty::Time
+            | Ty::Text
+            | Ty::Bytes
+            | Ty::Addr => return true,
         }
-        Ty::BigMap(_, _) | Ty::Contract(_) | Ty::Operation => false,
-        Ty::Unit
-        | Ty::Bool
-        | Ty::Int
-        | Ty::Nat
-        | Ty::Mutez
-        | Ty::Time
-        | Ty::Text
-        | Ty::Bytes
-        | Ty::Addr => true,
     }
 }
 
@@ -31,23 +37,31 @@ pub fn is_passable(t: &Ty) -> bool
 pub fn is_comparable(t: &Ty) -> bool
     ensures { result ≡ is_comparable t.now }
 {
-    match t {
-        Ty::Option(t) => is_comparable(t.get()),
-        Ty::Or(s, t) | Ty::Pair(s, t) => is_comparable(s.get()) && is_comparable(t.get()),
-        Ty::List(_)
-        | Ty::Set(_)
-        | Ty::Map(_, _)
-        | Ty::BigMap(_, _)
-        | Ty::Contract(_)
-        | Ty::Operation => false,
-        Ty::Unit
-        | Ty::Bool
-        | Ty::Int
-        | Ty::Nat
-        | Ty::Mutez
-        | Ty::Time
-        | Ty::Text
-        | Ty::Bytes
-        | Ty::Addr => true,
+    let mut t = t;
+    loop {
+        match t {
+            Ty::Option(part) => t = part.get(),
+            Ty::Or(first, rest) | Ty::Pair(first, rest) => {
+                if !is_comparable(first.get()) {
+                    return false;
+                }
+                t = rest.get();
+            }
+            Ty::List(_)
+            | Ty::Set(_)
+            | Ty::Map(_, _)
+            | Ty::BigMap(_, _)
+            | Ty::Contract(_)
+            | Ty::Operation => return false,
+            Ty::Unit
+            | Ty::Bool
+            | Ty::Int
+            | Ty::Nat
+            | Ty::Mutez
+            | Ty::Time
+            | Ty::Text
+            | Ty::Bytes
+            | Ty::Addr => return true,
+        }
     }
 }

@@ -3,6 +3,7 @@
 ghost use Rattle.std.specs.Prelude.{◌≡◌};
 ghost use Rattle.std.specs.Cmp.Lexicographic.{slice_cmp};
 ghost use Rattle.std.specs.Ordering.{nat_cmp};
+ghost use Rattle.value_core.specs.Alike.{AreAlike};
 ghost use Rattle.value_core.specs.Layer.{flat, tag_of};
 ghost use Rattle.value_core.specs.Order.{IsOrder, order, order_emit};
 ghost use Rattle.value_core.specs.declared.val.Val.TheViews.{out-Val};
@@ -44,16 +45,29 @@ fn tag(v: &Val) -> u8
 pub fn compare(a: &Val, b: &Val) -> Ordering
     ensures { result ≡ order a.now b.now }
 {
-    match tag(a).cmp(&tag(b)) {
-        Ordering::Equal => compare_alike(a, b),
-        unequal => unequal,
+    let (mut a, mut b) = (a, b);
+    loop {
+        match tag(a).cmp(&tag(b)) {
+            Ordering::Equal => {}
+            unequal => return unequal,
+        }
+        match (a, b) {
+            (Val::Pair(x, y), Val::Pair(z, w)) => match compare(x.get(), z.get()) {
+                Ordering::Equal => {
+                    a = y.get();
+                    b = w.get();
+                }
+                unequal => return unequal,
+            },
+            _ => return compare_alike(a, b),
+        }
     }
 }
 
-// The order of two values with one tag.
+// The order of two values with one tag, other than pairs.
 #[cycle(comparing)]
 fn compare_alike(a: &Val, b: &Val) -> Ordering
-    ensures { tag_of (out-Val a.now) ≡ tag_of (out-Val b.now) → result ≡ order a.now b.now }
+    ensures { AreAlike (out-Val a.now) (out-Val b.now) → result ≡ order a.now b.now }
 {
     match (a, b) {
         (Val::Int(m), Val::Int(n)) | (Val::Nat(m), Val::Nat(n)) | (Val::Time(m), Val::Time(n)) => {
@@ -66,10 +80,6 @@ fn compare_alike(a: &Val, b: &Val) -> Ordering
         (Val::Some(x), Val::Some(y))
         | (Val::Left(x), Val::Left(y))
         | (Val::Right(x), Val::Right(y)) => compare(x.get(), y.get()),
-        (Val::Pair(x, y), Val::Pair(z, w)) => match compare(x.get(), z.get()) {
-            Ordering::Equal => compare(y.get(), w.get()),
-            unequal => unequal,
-        },
         (Val::List(x), Val::List(y)) | (Val::Set(x), Val::Set(y)) => {
             compare_all(x.as_slice(), y.as_slice())
         }
@@ -96,7 +106,7 @@ fn compare_alike(a: &Val, b: &Val) -> Ordering
 fn compare_addresses(a: &Address, b: &Address) -> Ordering
     ensures { result ≡ slice_cmp nat_cmp a.now b.now }
 {
-    a.bytes().as_slice().cmp(b.bytes().as_slice())
+    a.cmp(b)
 }
 
 #[cycle(comparing)]

@@ -10,34 +10,46 @@ impl Val {
     pub fn same(&self, other: &Val) -> bool
         ensures { IsTrue result ↔ (self.now ≡ other.now) }
     {
-        match (self, other) {
-            (Val::Unit, Val::Unit) | (Val::Nothing, Val::Nothing) => true,
-            (Val::Bool(a), Val::Bool(b)) => *a == *b,
-            (Val::Int(a), Val::Int(b))
-            | (Val::Nat(a), Val::Nat(b))
-            | (Val::Time(a), Val::Time(b)) => { a.get() == b.get() }
-            (Val::Mutez(a), Val::Mutez(b)) => *a == *b,
-            (Val::Text(a), Val::Text(b)) => a.same(b),
-            (Val::Bytes(a), Val::Bytes(b)) => a.same(b),
-            (Val::Addr(a), Val::Addr(b)) => *a == *b,
-            (Val::Some(a), Val::Some(b))
-            | (Val::Left(a), Val::Left(b))
-            | (Val::Right(a), Val::Right(b)) => a.get().same(b.get()),
-            (Val::Pair(a, b), Val::Pair(c, d)) => a.get().same(c.get()) && b.get().same(d.get()),
-            (Val::List(a), Val::List(b)) | (Val::Set(a), Val::Set(b)) => {
-                all_same(a.as_slice(), b.as_slice())
+        let (mut v, mut w) = (self, other);
+        loop {
+            match (v, w) {
+                (Val::Unit, Val::Unit) | (Val::Nothing, Val::Nothing) => return true,
+                (Val::Bool(a), Val::Bool(b)) => return *a == *b,
+                (Val::Int(a), Val::Int(b))
+                | (Val::Nat(a), Val::Nat(b))
+                | (Val::Time(a), Val::Time(b)) => return a.get() == b.get(),
+                (Val::Mutez(a), Val::Mutez(b)) => return *a == *b,
+                (Val::Text(a), Val::Text(b)) => return a.same(b),
+                (Val::Bytes(a), Val::Bytes(b)) => return a.same(b),
+                (Val::Addr(a), Val::Addr(b)) => return *a == *b,
+                (Val::Some(a), Val::Some(b))
+                | (Val::Left(a), Val::Left(b))
+                | (Val::Right(a), Val::Right(b)) => {
+                    v = a.get();
+                    w = b.get();
+                }
+                (Val::Pair(a, b), Val::Pair(c, d)) => {
+                    if !a.get().same(c.get()) {
+                        return false;
+                    }
+                    v = b.get();
+                    w = d.get();
+                }
+                (Val::List(a), Val::List(b)) | (Val::Set(a), Val::Set(b)) => {
+                    return all_same(a.as_slice(), b.as_slice());
+                }
+                (Val::Map(a), Val::Map(b)) => return entries_same(a.as_slice(), b.as_slice()),
+                (
+                    Val::BigMap { place, version },
+                    Val::BigMap {
+                        place: other_place,
+                        version: other_version,
+                    },
+                ) => return *place == *other_place && *version == *other_version,
+                (Val::Contract(a, b), Val::Contract(c, d)) => return *a == *c && *b == *d,
+                (Val::Operation(a), Val::Operation(b)) => return a.get().same(b.get()),
+                _ => return false,
             }
-            (Val::Map(a), Val::Map(b)) => entries_same(a.as_slice(), b.as_slice()),
-            (
-                Val::BigMap { place, version },
-                Val::BigMap {
-                    place: other_place,
-                    version: other_version,
-                },
-            ) => *place == *other_place && *version == *other_version,
-            (Val::Contract(a, b), Val::Contract(c, d)) => *a == *c && *b == *d,
-            (Val::Operation(a), Val::Operation(b)) => a.get().same(b.get()),
-            _ => false,
         }
     }
 }

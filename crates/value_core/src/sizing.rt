@@ -10,24 +10,41 @@ use crate::val::Val;
 pub fn size(v: &Val) -> u64
     ensures { result ≡ min (size_of v.now) (2 ^ 64 - 1) }
 {
-    match v {
-        Val::Text(text) => 1 + text.bytes().len() as u64 / 32,
-        Val::Bytes(blob) => 1 + blob.bytes().len() as u64 / 32,
-        Val::Some(part) | Val::Left(part) | Val::Right(part) => size(part.get()).saturating_add(1),
-        Val::Pair(a, b) => size(a.get()).saturating_add(size(b.get())),
-        Val::List(items) | Val::Set(items) => size_of_items(items.as_slice()),
-        Val::Map(entries) => size_of_entries(entries.as_slice()),
-        Val::Operation(emit) => size(&emit.get().param).saturating_add(1),
-        Val::Unit
-        | Val::Bool(_)
-        | Val::Int(_)
-        | Val::Nat(_)
-        | Val::Mutez(_)
-        | Val::Time(_)
-        | Val::Addr(_)
-        | Val::Nothing
-        | Val::BigMap { .. }
-        | Val::Contract(_, _) => 1,
+    let mut v = v;
+    let mut before: u64 = 0;
+    loop {
+        match v {
+            Val::Some(part) | Val::Left(part) | Val::Right(part) => {
+                before = before.saturating_add(1);
+                v = part.get();
+            }
+            Val::Pair(first, rest) => {
+                before = before.saturating_add(size(first.get()));
+                v = rest.get();
+            }
+            Val::Operation(emit) => {
+                before = before.saturating_add(1);
+                v = &emit.get().param;
+            }
+            Val::Text(text) => return before.saturating_add(1 + text.bytes().len() as u64 / 32),
+            Val::Bytes(blob) => return before.saturating_add(1 + blob.bytes().len() as u64 / 32),
+            Val::List(items) | Val::Set(items) => {
+                return before.saturating_add(size_of_items(items.as_slice()));
+            }
+            Val::Map(entries) => {
+                return before.saturating_add(size_of_entries(entries.as_slice()));
+            }
+            Val::Unit
+            | Val::Bool(_)
+            | Val::Int(_)
+            | Val::Nat(_)
+            | Val::Mutez(_)
+            | Val::Time(_)
+            | Val::Addr(_)
+            | Val::Nothing
+            | Val::BigMap { .. }
+            | Val::Contract(_, _) => return before.saturating_add(1),
+        }
     }
 }
 

@@ -15,25 +15,35 @@ use std::cmp::Ordering;
 pub fn is_sound(v: &Val) -> bool
     ensures { result ≡ is_sound v.now }
 {
-    match v {
-        Val::Nat(n) => n.get() >= 0,
-        Val::Mutez(n) => *n < AMOUNT_LIMIT,
-        Val::Some(part) | Val::Left(part) | Val::Right(part) => is_sound(part.get()),
-        Val::Pair(a, b) => is_sound(a.get()) && is_sound(b.get()),
-        Val::List(items) => is_sound_list(items.as_slice()),
-        Val::Set(items) => is_sound_set(items.as_slice()),
-        Val::Map(entries) => is_sound_map(entries.as_slice()),
-        Val::BigMap { place, .. } => *place < 16,
-        Val::Operation(emit) => emit.get().amount < AMOUNT_LIMIT && is_sound(&emit.get().param),
-        Val::Unit
-        | Val::Bool(_)
-        | Val::Int(_)
-        | Val::Time(_)
-        | Val::Text(_)
-        | Val::Bytes(_)
-        | Val::Addr(_)
-        | Val::Nothing
-        | Val::Contract(_, _) => true,
+    let mut v = v;
+    loop {
+        match v {
+            Val::Some(part) | Val::Left(part) | Val::Right(part) => v = part.get(),
+            Val::Pair(first, rest) => {
+                if !is_sound(first.get()) {
+                    return false;
+                }
+                v = rest.get();
+            }
+            Val::Nat(n) => return n.get() >= 0,
+            Val::Mutez(n) => return *n < AMOUNT_LIMIT,
+            Val::List(items) => return is_sound_list(items.as_slice()),
+            Val::Set(items) => return is_sound_set(items.as_slice()),
+            Val::Map(entries) => return is_sound_map(entries.as_slice()),
+            Val::BigMap { place, .. } => return *place < 16,
+            Val::Operation(emit) => {
+                return emit.get().amount < AMOUNT_LIMIT && is_sound(&emit.get().param);
+            }
+            Val::Unit
+            | Val::Bool(_)
+            | Val::Int(_)
+            | Val::Time(_)
+            | Val::Text(_)
+            | Val::Bytes(_)
+            | Val::Addr(_)
+            | Val::Nothing
+            | Val::Contract(_, _) => return true,
+        }
     }
 }
 

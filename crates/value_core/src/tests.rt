@@ -1,11 +1,12 @@
 //! Small checked types at their bounds, and each call that takes memory once.
 
 use crate::{
-    Address, AddressFault, Blob, Emit, Name, Num, Text, Ty, Val, has_type, left, operation, pair,
-    right, size, some,
+    Address, AddressFault, Blob, Emit, Name, Num, Text, Ty, Val, comb, compare, has_type,
+    is_comparable, is_passable, left, operation, pair, right, size, some,
 };
 use sqlite_items::{Boxed, Items};
 use std::alloc::Global;
+use std::cmp::Ordering;
 use std::test::Fail;
 
 #[test]
@@ -74,5 +75,41 @@ fn a_copy_of_an_operation_is_the_same_operation(rt: HostRuntime) -> Result<(), F
     // the operation, Right, the map, its key, Left, the list, Some, and the bytes
     assert_eq!(rt; size(&w), 8);
     assert!(rt; has_type(&w, &Ty::Operation));
+    Ok(())
+}
+
+// As a flat text makes them, and deeper than a stack is.
+const PARTS: usize = 1_000_000;
+
+fn flat_pair(alloc: Global) -> Result<Val, Fail> {
+    let mut firsts = Items::new(alloc);
+    for _ in 1..PARTS {
+        firsts.push(Val::Unit)?;
+    }
+    Ok(comb(alloc, firsts, Val::Unit)?)
+}
+
+fn flat_pair_type(alloc: Global) -> Result<Ty, Fail> {
+    let mut t = Ty::Unit;
+    for _ in 1..PARTS {
+        t = Ty::Pair(Boxed::new(alloc, Ty::Unit)?, Boxed::new(alloc, t)?);
+    }
+    Ok(t)
+}
+
+#[test]
+fn a_pair_of_a_million_parts_is_copied_compared_and_dropped(rt: HostRuntime) -> Result<(), Fail> {
+    let alloc = rt.alloc();
+    let v = flat_pair(alloc)?;
+    let w = v.copy(alloc)?;
+    assert!(rt; v.same(&w));
+    assert_eq!(rt; compare(&v, &w), Ordering::Equal);
+    assert_eq!(rt; size(&w), 1_000_000);
+    let t = flat_pair_type(alloc)?;
+    let u = t.copy(alloc)?;
+    assert!(rt; t.same(&u));
+    assert!(rt; has_type(&v, &u));
+    assert!(rt; is_passable(&t));
+    assert!(rt; is_comparable(&t));
     Ok(())
 }

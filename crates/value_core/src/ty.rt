@@ -3,30 +3,78 @@
 ghost use Rattle.std.specs.Prelude.{◌≡◌, ◌↔◌, IfOk, IsTrue};
 
 use crate::memory::NoMemory;
-use sqlite_items::Boxed;
+use sqlite_items::{Boxed, Items};
 use std::alloc::Global;
 
 /// What a value may be built as.
-#[derive(Debug, Drop)]
+#[derive(Debug)]
 pub enum Ty {
+    /// The one value `Unit`.
     Unit,
+    /// True or false.
     Bool,
+    /// A whole number from -(2^127 - 1) to 2^127 - 1.
     Int,
+    /// A whole number from 0 to 2^127 - 1.
     Nat,
+    /// An amount of money, from 0 to 2^63 - 1 millionths.
     Mutez,
+    /// Seconds since 1970, with the range of `Int`.
     Time,
+    /// At most 131,071 printable characters and newlines.
     Text,
+    /// At most 131,071 bytes.
     Bytes,
+    /// The 22 bytes of an account or a contract.
     Addr,
+    /// None, or a value.
     Option(Boxed<Ty>),
+    /// A value on the left, or one on the right.
     Or(Boxed<Ty>, Boxed<Ty>),
+    /// Two values.
     Pair(Boxed<Ty>, Boxed<Ty>),
+    /// Values in a row.
     List(Boxed<Ty>),
+    /// Values that strictly ascend.
     Set(Boxed<Ty>),
+    /// Keys that strictly ascend, each with a value.
     Map(Boxed<Ty>, Boxed<Ty>),
+    /// A map that stays in the state, named by its place.
     BigMap(Boxed<Ty>, Boxed<Ty>),
+    /// The entry of a contract that takes such a value.
     Contract(Boxed<Ty>),
+    /// What a contract emits.
     Operation,
+}
+
+// The last part is dropped in the loop: a flat `pair` is as deep as it has parts.
+impl Drop for Ty {
+    fn drop(mut self) {
+        loop {
+            match self {
+                Ty::Unit
+                | Ty::Bool
+                | Ty::Int
+                | Ty::Nat
+                | Ty::Mutez
+                | Ty::Time
+                | Ty::Text
+                | Ty::Bytes
+                | Ty::Addr
+                | Ty::Operation => return,
+                Ty::Option(last) | Ty::List(last) | Ty::Set(last) | Ty::Contract(last) => {
+                    self = last.into_inner();
+                }
+                Ty::Or(first, last)
+                | Ty::Pair(first, last)
+                | Ty::Map(first, last)
+                | Ty::BigMap(first, last) => {
+                    drop(first);
+                    self = last.into_inner();
+                }
+            }
+        }
+    }
 }
 
 impl Ty {
@@ -47,7 +95,7 @@ impl Ty {
             Ty::Addr => Ok(Ty::Addr),
             Ty::Option(t) => Ok(Ty::Option(copy_boxed(alloc, t)?)),
             Ty::Or(s, t) => Ok(Ty::Or(copy_boxed(alloc, s)?, copy_boxed(alloc, t)?)),
-            Ty::Pair(s, t) => Ok(Ty::Pair(copy_boxed(alloc, s)?, copy_boxed(alloc, t)?)),
+            Ty::Pair(first, rest) => copy_comb(alloc, first.get(), rest.get()),
             Ty::List(t) => Ok(Ty::List(copy_boxed(alloc, t)?)),
             Ty::Set(t) => Ok(Ty::Set(copy_boxed(alloc, t)?)),
             Ty::Map(k, v) => Ok(Ty::Map(copy_boxed(alloc, k)?, copy_boxed(alloc, v)?)),
@@ -61,28 +109,38 @@ impl Ty {
     pub fn same(&self, other: &Ty) -> bool
         ensures { IsTrue result ↔ (self.now ≡ other.now) }
     {
-        match (self, other) {
-            (Ty::Unit, Ty::Unit)
-            | (Ty::Bool, Ty::Bool)
-            | (Ty::Int, Ty::Int)
-            | (Ty::Nat, Ty::Nat)
-            | (Ty::Mutez, Ty::Mutez)
-            | (Ty::Time, Ty::Time)
-            | (Ty::Text, Ty::Text)
-            | (Ty::Bytes, Ty::Bytes)
-            | (Ty::Addr, Ty::Addr)
-            | (Ty::Operation, Ty::Operation) => true,
-            (Ty::Option(a), Ty::Option(b))
-            | (Ty::List(a), Ty::List(b))
-            | (Ty::Set(a), Ty::Set(b))
-            | (Ty::Contract(a), Ty::Contract(b)) => a.get().same(b.get()),
-            (Ty::Or(a, b), Ty::Or(c, d))
-            | (Ty::Pair(a, b), Ty::Pair(c, d))
-            | (Ty::Map(a, b), Ty::Map(c, d))
-            | (Ty::BigMap(a, b), Ty::BigMap(c, d)) => {
-                a.get().same(c.get()) && b.get().same(d.get())
+        let (mut a, mut b) = (self, other);
+        loop {
+            match (a, b) {
+                (Ty::Unit, Ty::Unit)
+                | (Ty::Bool, Ty::Bool)
+                | (Ty::Int, Ty::Int)
+                | (Ty::Nat, Ty::Nat)
+                | (Ty::Mutez, Ty::Mutez)
+                | (Ty::Time, Ty::Time)
+                | (Ty::Text, Ty::Text)
+                | (Ty::Bytes, Ty::Bytes)
+                | (Ty::Addr, Ty::Addr)
+                | (Ty::Operation, Ty::Operation) => return true,
+                (Ty::Option(s), Ty::Option(t))
+                | (Ty::List(s), Ty::List(t))
+                | (Ty::Set(s), Ty::Set(t))
+                | (Ty::Contract(s), Ty::Contract(t)) => {
+                    a = s.get();
+                    b = t.get();
+                }
+                (Ty::Or(r, s), Ty::Or(t, u))
+                | (Ty::Pair(r, s), Ty::Pair(t, u))
+                | (Ty::Map(r, s), Ty::Map(t, u))
+                | (Ty::BigMap(r, s), Ty::BigMap(t, u)) => {
+                    if !r.get().same(t.get()) {
+                        return false;
+                    }
+                    a = s.get();
+                    b = u.get();
+                }
+                _ => return false,
             }
-            _ => false,
         }
     }
 }
@@ -92,4 +150,30 @@ fn copy_boxed(alloc: Global, t: &Boxed<Ty>) -> Result<Boxed<Ty>, NoMemory>
     ensures { IfOk result (λ copied. copied ≡ t.now) }
 {
     Boxed::new(alloc, t.get().copy(alloc)?)
+}
+
+// The pair of the copies of two types; the first parts of a comb wait in a list for its last one.
+#[cycle(copying_types)]
+#[tactic(auto, using(crate::proofs::Combs::one_more_part))]
+fn copy_comb(alloc: Global, first: &Ty, rest: &Ty) -> Result<Ty, NoMemory>
+    ensures { IfOk result (λ t. t ≡ Ty.Pair first.now rest.now) }
+{
+    let mut firsts = Items::new(alloc);
+    let (mut left, mut right) = (first, rest);
+    while let Ty::Pair(next, behind) = right {
+        firsts.push(left.copy(alloc)?)?;
+        left = next.get();
+        right = behind.get();
+    }
+    let mut comb = pair(alloc, left.copy(alloc)?, right.copy(alloc)?)?;
+    while let Some(part) = firsts.pop() {
+        comb = pair(alloc, part, comb)?;
+    }
+    Ok(comb)
+}
+
+fn pair(alloc: Global, a: Ty, b: Ty) -> Result<Ty, NoMemory>
+    ensures { IfOk result (λ t. t ≡ Ty.Pair a b) }
+{
+    Ok(Ty::Pair(Boxed::new(alloc, a)?, Boxed::new(alloc, b)?))
 }

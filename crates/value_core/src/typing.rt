@@ -24,29 +24,43 @@ pub fn has_type(v: &Val, t: &Ty) -> bool
 fn fits(v: &Val, t: &Ty) -> bool
     ensures { result ≡ fits v.now t.now }
 {
-    match (v, t) {
-        (Val::Unit, Ty::Unit)
-        | (Val::Bool(_), Ty::Bool)
-        | (Val::Int(_), Ty::Int)
-        | (Val::Nat(_), Ty::Nat)
-        | (Val::Mutez(_), Ty::Mutez)
-        | (Val::Time(_), Ty::Time)
-        | (Val::Text(_), Ty::Text)
-        | (Val::Bytes(_), Ty::Bytes)
-        | (Val::Addr(_), Ty::Addr)
-        | (Val::Nothing, Ty::Option(_))
-        | (Val::BigMap { .. }, Ty::BigMap(_, _))
-        | (Val::Contract(_, _), Ty::Contract(_))
-        | (Val::Operation(_), Ty::Operation) => true,
-        (Val::Some(part), Ty::Option(t))
-        | (Val::Left(part), Ty::Or(t, _))
-        | (Val::Right(part), Ty::Or(_, t)) => fits(part.get(), t.get()),
-        (Val::Pair(a, b), Ty::Pair(s, t)) => fits(a.get(), s.get()) && fits(b.get(), t.get()),
-        (Val::List(items), Ty::List(t)) | (Val::Set(items), Ty::Set(t)) => {
-            all_fit(items.as_slice(), t.get())
+    let (mut v, mut t) = (v, t);
+    loop {
+        match (v, t) {
+            (Val::Unit, Ty::Unit)
+            | (Val::Bool(_), Ty::Bool)
+            | (Val::Int(_), Ty::Int)
+            | (Val::Nat(_), Ty::Nat)
+            | (Val::Mutez(_), Ty::Mutez)
+            | (Val::Time(_), Ty::Time)
+            | (Val::Text(_), Ty::Text)
+            | (Val::Bytes(_), Ty::Bytes)
+            | (Val::Addr(_), Ty::Addr)
+            | (Val::Nothing, Ty::Option(_))
+            | (Val::BigMap { .. }, Ty::BigMap(_, _))
+            | (Val::Contract(_, _), Ty::Contract(_))
+            | (Val::Operation(_), Ty::Operation) => return true,
+            (Val::Some(part), Ty::Option(s))
+            | (Val::Left(part), Ty::Or(s, _))
+            | (Val::Right(part), Ty::Or(_, s)) => {
+                v = part.get();
+                t = s.get();
+            }
+            (Val::Pair(a, b), Ty::Pair(r, s)) => {
+                if !fits(a.get(), r.get()) {
+                    return false;
+                }
+                v = b.get();
+                t = s.get();
+            }
+            (Val::List(items), Ty::List(s)) | (Val::Set(items), Ty::Set(s)) => {
+                return all_fit(items.as_slice(), s.get());
+            }
+            (Val::Map(entries), Ty::Map(r, s)) => {
+                return entries_fit(entries.as_slice(), r.get(), s.get());
+            }
+            _ => return false,
         }
-        (Val::Map(entries), Ty::Map(k, v)) => entries_fit(entries.as_slice(), k.get(), v.get()),
-        _ => false,
     }
 }
 

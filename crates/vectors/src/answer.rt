@@ -10,8 +10,11 @@ pub enum Answer {
     Value(usize, u64),
     /// Where the fault is.
     At(usize),
+    /// The first value is below the second.
     Less,
+    /// The values are equal.
     Equal,
+    /// The first value is above the second.
     Greater,
     /// So many bytes are no address.
     BadLength(usize),
@@ -19,6 +22,7 @@ pub enum Answer {
     BadFirst(u8),
     /// The bytes are not what the case asks for.
     Nothing,
+    /// The line is no case.
     NoCase,
 }
 

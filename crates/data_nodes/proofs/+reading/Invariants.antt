@@ -1,9 +1,10 @@
 -- The readers go down the type; what a loop has read stands before what is left.
-use Rattle.std.proofs.Common.{◌≡◌, ◌+◌, ◌-◌, ◌*◌, None, drop, length, map, max}
+use Rattle.std.proofs.Common.{◌≡◌, ◌≤◌, ◌+◌, ◌-◌, ◌*◌, None, drop, length, map, max}
 use Rattle.value_core.specs.declared.ty.Ty.{size-Ty}
 use Rattle.data_nodes.specs.LastRead.{last_item, last_key}
-use Rattle.data_nodes.specs.Readers.{ascending, entries, items}
+use Rattle.data_nodes.specs.Readers.{ascending, comb, entries, items}
 use Rattle.data_nodes.specs.Faults.{reader}
+use Rattle.data_nodes.proofs.Combs.{behind_firsts}
 use Rattle.data_nodes.proofs.LoopTurns.{behind}
 use Rattle.data_nodes.proofs.+reading.Given as goal
 
@@ -50,3 +51,11 @@ invariant-items::ascending-loop-node l = behind l.items (ascending l.t (last_ite
 abbrev pub invariant-items::entries-loop-node : goal.invariant-items::entries-loop-node
 invariant-items::entries-loop-node l =
     behind l.entries (entries l.k l.v (last_key l.entries) (map reader (drop l.node-index l.nodes))) ≡ entries l.k l.v None (map reader l.nodes)
+
+abbrev pub invariant-reader::comb-loop-left : goal.invariant-reader::comb-loop-left
+invariant-reader::comb-loop-left l =
+    (behind_firsts l.firsts (comb l.at (map reader l.left) l.behind) ≡ comb l.at (map reader l.fn.nodes) l.fn.t)
+    × (9 * size-Ty l.behind + 4 * (2 - length l.left) ≤ 9 * size-Ty l.fn.t + 4 * (2 - length l.fn.nodes))
+
+abbrev pub decreases-reader::comb-loop-left : goal.decreases-reader::comb-loop-left
+decreases-reader::comb-loop-left l = length l.left

@@ -1,6 +1,6 @@
 use Rattle.std.proofs.Common.{Result, sym, subst}
 use Rattle.std.specs.Prelude.{IfOk}
-use Rattle.cell_names.specs.declared.fault.FormatFault.{FormatFault}
+use Rattle.byte_fields.specs.Stops.{Stop}
 use Rattle.ledger_state.specs.Ledger.{Ledger}
 use Rattle.block_cli.specs.Validating.{ValidatesOn}
 use Rattle.block_cli.specs.Inside.{answer_in}
@@ -8,5 +8,5 @@ use Rattle.block_cli.proofs.validate.validate.Goals as goal
 
 pub returns-in-Ok : goal.returns-in-Ok
 returns-in-Ok c =
-    subst (λ (r : Result Ledger FormatFault). IfOk c.judged.result (λ a. ValidatesOn c.args.state.now c.args.next.now r c.args.block.now (answer_in a)))
+    subst (λ (r : Result Ledger Stop). IfOk c.judged.result (λ a. ValidatesOn c.args.state.now c.args.next.now r c.args.block.now (answer_in a)))
     (sym c.in-Ok.ensures.told) (c.judged.ensures c.args.state.now)

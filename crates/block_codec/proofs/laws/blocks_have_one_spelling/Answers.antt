@@ -1,12 +1,12 @@
 -- The clauses of reading, without a reader.
-use Rattle.std.proofs.Common.{Ok, refl}
-use Rattle.cell_names.proofs.PartTold.{all_is_found, read_again}
-use Rattle.block_codec.specs.Spelling.{spelling}
+use Rattle.std.proofs.Common.{refl}
+use Rattle.byte_fields.proofs.Places.{all_again, all_spelt_in}
+use Rattle.block_codec.specs.Reading.{block}
 use Rattle.block_codec.proofs.BlockLaw.{block_reads}
 use Rattle.block_codec.proofs.laws.blocks_have_one_spelling.Goals as goal
 
 pub returns-clause-read : goal.returns-clause-read
-returns-clause-read c bytes b fits e = all_is_found block_reads bytes (Ok b) fits e
+returns-clause-read c bytes b fits e = all_spelt_in block_reads bytes b (block bytes) fits refl e
 
 pub returns-clause-again : goal.returns-clause-again
-returns-clause-again c b lawful = read_again block_reads (spelling b) b lawful refl
+returns-clause-again c b lawful = all_again block_reads b lawful

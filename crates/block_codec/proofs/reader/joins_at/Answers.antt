@@ -3,6 +3,7 @@ use Rattle.std.proofs.Common.{ℕ, List, [], ◌∷◌, map, ap, ◌∙◌}
 use Rattle.std.specs.Global.{Vec}
 use Rattle.std.proofs.lemmas.List.{map-append}
 use Rattle.block_codec.specs.Reading.{list}
+use Rattle.cell_names.specs.Stops.{format_stop}
 use Rattle.block_codec.proofs.Items.{one_more, stops_all}
 use Rattle.block_codec.proofs.reader.joins_at.Goals as goal
 
@@ -10,7 +11,7 @@ abbrev items_of : List (Vec ℕ) → List (List ℕ)
 items_of = map (λ (list : Vec ℕ). list.items)
 
 pub returns-in-Err : goal.returns-in-Err
-returns-in-Err c = stops_all list (items_of c.loop.lists.items) c.args.count c.loop.counter c.loop.rest.now _ c.loop-test.true c.loop.invariant c.in-Err.stop c.in-Err.ensures
+returns-in-Err c = stops_all list (items_of c.loop.lists.items) c.args.count c.loop.counter c.loop.rest.now _ c.loop-test.true c.loop.invariant (format_stop c.in-Err.stop) c.in-Err.ensures
 
 pub loop-preserved : goal.loop-preserved
 loop-preserved c =

@@ -1,9 +1,9 @@
 -- What was read, and with it what is still read, is the whole.
 use Rattle.std.proofs.Common.{◌≡◌, ◌-◌, ℕ, map}
 use Rattle.std.specs.Global.{Vec}
-use Rattle.cell_names.specs.Partial.{many}
+use Rattle.byte_fields.specs.Readers.{many}
 use Rattle.block_codec.specs.Reading.{list}
-use Rattle.cell_names.proofs.PartLoops.{with_front}
+use Rattle.byte_fields.proofs.Loops.{with_front}
 use Rattle.block_codec.proofs.reader.joins_at.Given as goal
 
 abbrev pub invariant-loop : goal.invariant-loop

@@ -1,12 +1,15 @@
 -- One operation more, or the stop that it meets.
 use Rattle.std.proofs.Common.{ℕ, refl}
-use Rattle.cell_names.proofs.PartLoops.{goes_on, ends}
+use Rattle.byte_fields.proofs.Loops.{goes_on, stops}
+use Rattle.cell_names.specs.Stops.{field_stop}
+use Rattle.cell_names.proofs.StopLemmas.{stop_of_field}
 use Rattle.block_codec.specs.Operation.{op, gas_up_to}
 use Rattle.block_codec.proofs.reader.ops_at.Goals as goal
 
 pub returns-in-Err : goal.returns-in-Err
 returns-in-Err c =
-    ends {S = ℕ} c.in-Err.stop op gas_up_to c.loop.total c.loop.ops.items c.args.count c.loop.counter c.loop.rest.now _ c.loop-test.true c.in-Err.ensures.read c.loop.invariant.so_far
+    stop_of_field c.in-Err.stop _ _ c.from.ensures
+    (stops {S = ℕ} (field_stop c.in-Err.stop) op gas_up_to c.loop.total c.loop.ops.items c.args.count c.loop.counter c.loop.rest.now _ c.loop-test.true c.in-Err.ensures.read c.loop.invariant.so_far)
 
 pub loop-preserved : goal.loop-preserved
 loop-preserved c = record {

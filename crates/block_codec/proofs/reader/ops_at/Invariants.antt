@@ -1,9 +1,9 @@
 -- The gas stays within a block's; what was read, and with it what is still read, is the whole.
 use Rattle.std.proofs.Common.{◌≡◌, ◌-◌, ◌≤◌}
-use Rattle.cell_names.specs.Partial.{chained}
+use Rattle.byte_fields.specs.Readers.{chained}
 use Rattle.block_codec.specs.Operation.{op, gas_up_to}
 use Rattle.block_codec.specs.Reading.{ops}
-use Rattle.cell_names.proofs.PartLoops.{with_front}
+use Rattle.byte_fields.proofs.Loops.{with_front}
 use Rattle.block_codec.proofs.reader.ops_at.Given as goal
 
 abbrev pub invariant-loop : goal.invariant-loop

@@ -1,8 +1,8 @@
 -- What was read, and with it what is still read, is the whole.
 use Rattle.std.proofs.Common.{◌≡◌, ◌-◌}
-use Rattle.cell_names.specs.Partial.{many}
+use Rattle.byte_fields.specs.Readers.{many}
 use Rattle.block_codec.specs.Reading.{receipt}
-use Rattle.cell_names.proofs.PartLoops.{with_front}
+use Rattle.byte_fields.proofs.Loops.{with_front}
 use Rattle.block_codec.proofs.reader.receipts_at.Given as goal
 
 abbrev pub invariant-loop : goal.invariant-loop

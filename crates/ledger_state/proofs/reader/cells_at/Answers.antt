@@ -1,13 +1,14 @@
 use Rattle.std.proofs.Common.{Some, ◌+◌, refl}
 use Rattle.std.specs.Option.{option_map}
 use Rattle.cell_names.specs.declared.cell.Cell.TheVariants.{Balance}
-use Rattle.cell_names.proofs.PartLoops.{goes_on, ends}
+use Rattle.byte_fields.proofs.Loops.{goes_on, ends}
+use Rattle.cell_names.specs.Stops.{format_stop}
 use Rattle.ledger_state.specs.Reading.{holding, next, cells}
 use Rattle.ledger_state.proofs.reader.cells_at.Goals as goal
 
 pub returns-in-Err : goal.returns-in-Err
 returns-in-Err c =
-    ends c.in-Err.stop holding next (option_map Balance c.loop.last, c.loop.total) c.loop.holdings.items c.args.count c.loop.counter c.loop.rest.now (cells c.args.count c.args.bytes.now) c.loop-test.true c.in-Err.ensures.read c.loop.invariant.so_far
+    ends (format_stop c.in-Err.stop) holding next (option_map Balance c.loop.last, c.loop.total) c.loop.holdings.items c.args.count c.loop.counter c.loop.rest.now (cells c.args.count c.args.bytes.now) c.loop-test.true c.in-Err.ensures.read c.loop.invariant.so_far
 
 pub loop-preserved : goal.loop-preserved
 loop-preserved c = record {

@@ -1,8 +1,8 @@
 use Rattle.std.proofs.Common.{◌≡◌, ◌-◌, ◌<◌, ◌^◌}
 use Rattle.std.specs.Option.{option_map}
 use Rattle.cell_names.specs.declared.cell.Cell.TheVariants.{Balance}
-use Rattle.cell_names.specs.Partial.{chained}
-use Rattle.cell_names.proofs.PartLoops.{with_front}
+use Rattle.byte_fields.specs.Readers.{chained}
+use Rattle.byte_fields.proofs.Loops.{with_front}
 use Rattle.ledger_state.specs.Reading.{holding, next, cells}
 use Rattle.ledger_state.proofs.reader.cells_at.Given as goal
 

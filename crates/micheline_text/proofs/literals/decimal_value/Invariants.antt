@@ -1,6 +1,6 @@
 -- The number of the digits so far.
 use Rattle.std.proofs.Common.{◌≡◌, ◌^◌, min, take}
-use Rattle.micheline_text.specs.Lexing.{decimal_value}
+use Rattle.micheline_text.specs.Literals.{decimal_value}
 use Rattle.micheline_text.proofs.literals.decimal_value.Given as goal
 
 abbrev pub invariant-loop-b : goal.invariant-loop-b

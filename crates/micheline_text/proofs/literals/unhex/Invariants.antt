@@ -1,7 +1,7 @@
 -- The bytes so far, and the digits that are left.
 use Rattle.std.proofs.Common.{◌≡◌, ◌<◌, ◌++◌, drop, None}
 use Rattle.std.specs.Option.{ForSome}
-use Rattle.micheline_text.specs.Lexing.{unhex}
+use Rattle.micheline_text.specs.Literals.{unhex}
 use Rattle.micheline_text.proofs.literals.unhex.Given as goal
 
 abbrev pub invariant-loop-b : goal.invariant-loop-b

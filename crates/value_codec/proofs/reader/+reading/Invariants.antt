@@ -23,12 +23,12 @@ decreases-behind l = 3 * l.depth + 2
 
 abbrev pub invariant-items_at-loop : goal.invariant-items_at-loop
 invariant-items_at-loop l =
-    with_front l.items (many (value l.depth) (l.count - l.counter) l.rest) ≡ many (value l.depth) l.count l.bytes
+    with_front l.items (many (value l.most l.depth) (l.count - l.counter) l.rest) ≡ many (value l.most l.depth) l.count l.bytes
 
 abbrev pub invariant-ascending_at-loop : goal.invariant-ascending_at-loop
 invariant-ascending_at-loop l =
-    with_front l.items (ascending (value l.depth) (last_item l.items) (l.count - l.counter) l.rest) ≡ ascending (value l.depth) None l.count l.bytes
+    with_front l.items (ascending (value l.most l.depth) (last_item l.items) (l.count - l.counter) l.rest) ≡ ascending (value l.most l.depth) None l.count l.bytes
 
 abbrev pub invariant-entries_at-loop : goal.invariant-entries_at-loop
 invariant-entries_at-loop l =
-    with_front l.entries (entries (value l.depth) (last_key l.entries) (l.count - l.counter) l.rest) ≡ entries (value l.depth) None l.count l.bytes
+    with_front l.entries (entries (value l.most l.depth) (last_key l.entries) (l.count - l.counter) l.rest) ≡ entries (value l.most l.depth) None l.count l.bytes
