@@ -1,6 +1,12 @@
 mod Printing
 mod Sizes
+mod NumberLemmas
+mod FileLists
+mod AllOrNothing
 mod Ending
+mod Completing
 mod OneVerdict
 mod Replaying
 mod Disorder
+mod EveryVerdict
+mod TrueBlocks

@@ -17,7 +17,8 @@ use Rattle.ledger_state.specs.Ledger.{Ledger}
 use Rattle.block_codec.specs.Block.{BlockView}
 use Rattle.block_codec.specs.Reading.{block_of}
 use Rattle.state_digest.specs.Digest.{digest_of}
-use Rattle.block_cli.specs.Verdict.{Verdict, Malformed, NotYet, WrongParent, BadJoin, Unordered, FootprintDiffers, ReceiptDiffers, StateDiffers, Accepted, StandsOn, IsOrdered, serial_run, SameFootprint, SameReceipt, TellsFirst, state_after, IsVerdictOn, IsVerdictOf, IsVerdict}
+use Rattle.block_cli.specs.declared.refusal.Refusal.TheVariants.{Malformed, NotYet, WrongParent, BadJoin, Unordered, FootprintDiffers, ReceiptDiffers, StateDiffers}
+use Rattle.block_cli.specs.Verdict.{Verdict, Refused, Accepted, StandsOn, IsOrdered, SameFootprint, SameReceipt, TellsFirst, state_after, IsVerdictOn, IsVerdictOf, IsVerdict}
 
 -- ---- one first bad list, one first conflict
 
@@ -63,16 +64,16 @@ module _ (joins : List (List ℕ)) (footprints : List (List (Cell × Mode))) whe
   cell_is : (i j : ℕ) (c d : Cell) → IsFirstUnordered joins footprints i j c → IsFirstUnordered joins footprints i j d → c ≡ d
   cell_is i j c d p q = one_cell c d (p.least_cell d q.conflict) (q.least_cell c p.conflict)
 
-  one_conflict : (i j h k : ℕ) (c d : Cell) → IsFirstUnordered joins footprints i j c → IsFirstUnordered joins footprints h k d → Unordered i j c ≡ Unordered h k d
+  one_conflict : (i j h k : ℕ) (c d : Cell) → IsFirstUnordered joins footprints i j c → IsFirstUnordered joins footprints h k d → Refused (Unordered i j c) ≡ Refused (Unordered h k d)
   one_conflict i j h k c d p q = by_later (later_is i j h k c d p q) q
     where
-      by_cell : (e : c ≡ d) → Unordered i j c ≡ Unordered i j d
-      by_cell e = ap (λ (x : Cell). Unordered i j x) e
+      by_cell : (e : c ≡ d) → Refused (Unordered i j c) ≡ Refused (Unordered i j d)
+      by_cell e = ap (λ (x : Cell). Refused (Unordered i j x)) e
 
-      by_earlier : (x : ℕ) → i ≡ x → IsFirstUnordered joins footprints x j d → Unordered i j c ≡ Unordered x j d
+      by_earlier : (x : ℕ) → i ≡ x → IsFirstUnordered joins footprints x j d → Refused (Unordered i j c) ≡ Refused (Unordered x j d)
       by_earlier x e r = rw (← e) (by_cell (cell_is i j c d p (rw e r)))
 
-      by_later : j ≡ k → IsFirstUnordered joins footprints h k d → Unordered i j c ≡ Unordered h k d
+      by_later : j ≡ k → IsFirstUnordered joins footprints h k d → Refused (Unordered i j c) ≡ Refused (Unordered h k d)
       by_later e r = rw (← e) (let r' : IsFirstUnordered joins footprints h j d = rw e r in by_earlier h (earlier_is i h j c d p r') r')
 
 -- ---- the table, line by line: either this line holds, or a later one
@@ -87,20 +88,20 @@ one_of Here Later here never later v w (inr p) (inr q) = later v w p q
 module _ (s : Ledger) (b : BlockView) where
   -- the published state differs, or all is accepted
   abbrev StateLine : Verdict → Type 0
-  StateLine v = (b.state ≢ digest_of (serial_run s b).balances) × (v ≡ StateDiffers)
+  StateLine v = (b.state ≢ digest_of (state_after s b)) × (v ≡ Refused StateDiffers)
 
   abbrev LastLine : Verdict → Type 0
-  LastLine v = (b.state ≡ digest_of (serial_run s b).balances) × (v ≡ Accepted (state_after s b))
+  LastLine v = (b.state ≡ digest_of (state_after s b)) × (v ≡ Accepted (state_after s b))
 
   last_line : (v w : Verdict) → StateLine v ⊎ LastLine v → StateLine w ⊎ LastLine w → v ≡ w
   last_line = one_of StateLine LastLine (λ v w p q. p.1 ∙ sym q.1) (λ v w p q. p.0 q.0) (λ v w p q. p.1 ∙ sym q.1)
 
   -- something else is published of operation i: its footprint, or its receipt alone
   abbrev FootprintLine : ℕ → Verdict → Type 0
-  FootprintLine i v = (¬ SameFootprint s b i) × (v ≡ FootprintDiffers i)
+  FootprintLine i v = (¬ SameFootprint s b i) × (v ≡ Refused (FootprintDiffers i))
 
   abbrev ReceiptLine : ℕ → Verdict → Type 0
-  ReceiptLine i v = SameFootprint s b i × (¬ SameReceipt s b i) × (v ≡ ReceiptDiffers i)
+  ReceiptLine i v = SameFootprint s b i × (¬ SameReceipt s b i) × (v ≡ Refused (ReceiptDiffers i))
 
   abbrev OpLine : ℕ → Verdict → Type 0
   OpLine i v = FootprintLine i v ⊎ ReceiptLine i v
@@ -139,7 +140,7 @@ module _ (s : Ledger) (b : BlockView) where
     later : ℕ
     cell : Cell
     first : IsFirstUnordered b.joins b.footprints earlier later cell
-    is : v ≡ Unordered earlier later cell
+    is : v ≡ Refused (Unordered earlier later cell)
 
   record CoverLine (v : Verdict) : Type 0 where
     cover : Cover b.joins b.footprints
@@ -158,21 +159,21 @@ module _ (s : Ledger) (b : BlockView) where
   record BadLine (v : Verdict) : Type 0 where
     op : ℕ
     first : IsFirstBad b.joins op
-    is : v ≡ BadJoin op
+    is : v ≡ Refused (BadJoin op)
 
   record JoinLine (v : Verdict) : Type 0 where
     joins : AreJoins b.joins
     here : ConflictLine v ⊎ CoverLine v
 
   bad_line : (v w : Verdict) → BadLine v → BadLine w → v ≡ w
-  bad_line v w p q = p.is ∙ ap BadJoin (one_bad b.joins p.op q.op p.first q.first) ∙ sym q.is
+  bad_line v w p q = p.is ∙ ap (λ (j : ℕ). Refused (BadJoin j)) (one_bad b.joins p.op q.op p.first q.first) ∙ sym q.is
 
   join_line : (v w : Verdict) → BadLine v ⊎ JoinLine v → BadLine w ⊎ JoinLine w → v ≡ w
   join_line = one_of BadLine JoinLine bad_line (λ v w p q. p.first.bad (q.joins p.op p.first.within)) (λ v w p q. cover_line v w p.here q.here)
 
   -- of where the block stands
   abbrev ParentLine : Verdict → Type 0
-  ParentLine v = (¬ StandsOn s b) × (v ≡ WrongParent)
+  ParentLine v = (¬ StandsOn s b) × (v ≡ Refused WrongParent)
 
   abbrev StandLine : Verdict → Type 0
   StandLine v = StandsOn s b × (BadLine v ⊎ JoinLine v)
@@ -186,15 +187,15 @@ module _ (s : Ledger) (b : BlockView) where
   ordered v o here = inr (o.stands, inr (record { joins = o.joins; here = inr (record { cover = o.covered; here = here }) }))
 
   lined : (v : Verdict) → IsVerdictOn s b v → ParentLine v ⊎ StandLine v
-  lined (Malformed p) h = absurd h
-  lined (NotYet p) h = absurd h
-  lined WrongParent h = inl (h, refl)
-  lined (BadJoin j) h = inr (h.0, inl (record { op = j; first = h.1; is = refl }))
-  lined (Unordered i j c) h = inr (h.0, inr (record { joins = h.1; here = inl (record { earlier = i; later = j; cell = c; first = h.2; is = refl }) }))
-  lined (FootprintDiffers i) h = ordered (FootprintDiffers i) h.0 (inl (record { op = i; within = h.1; before = h.2; here = inl (h.3, refl) }))
-  lined (ReceiptDiffers i) h = ordered (ReceiptDiffers i) h.0 (inl (record { op = i; within = h.1; before = h.2; here = inr (h.3, h.4, refl) }))
-  lined StateDiffers h = ordered StateDiffers h.0 (inr (record { all = h.1; here = inl (h.2, refl) }))
-  lined (Accepted after) h = ordered (Accepted after) h.0 (inr (record { all = h.1; here = inr (h.2, ap Accepted h.3) }))
+  lined (Refused (Malformed p)) h = absurd h
+  lined (Refused (NotYet p)) h = absurd h
+  lined (Refused WrongParent) h = inl (h, refl)
+  lined (Refused (BadJoin j)) h = inr (h.0, inl (record { op = j; first = h.1; is = refl }))
+  lined (Refused (Unordered i j c)) h = inr (h.0, inr (record { joins = h.1; here = inl (record { earlier = i; later = j; cell = c; first = h.2; is = refl }) }))
+  lined (Refused (FootprintDiffers i)) h = ordered (Refused (FootprintDiffers i)) h.0 (inl (record { op = i; within = h.1; before = h.2; here = inl (h.3, refl) }))
+  lined (Refused (ReceiptDiffers i)) h = ordered (Refused (ReceiptDiffers i)) h.0 (inl (record { op = i; within = h.1; before = h.2; here = inr (h.3, h.4, refl) }))
+  lined (Refused StateDiffers) h = ordered (Refused StateDiffers) h.0 (inr (record { all = h.1; here = inl (h.2, refl) }))
+  lined (Accepted after) h = ordered (Accepted after) h.0.0 (inr (record { all = h.0.1; here = inr (h.0.2, ap Accepted h.1) }))
 
   on_block : (v w : Verdict) → IsVerdictOn s b v → IsVerdictOn s b w → v ≡ w
   on_block v w p q = stand_line v w (lined v p) (lined w q)

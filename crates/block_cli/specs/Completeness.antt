@@ -1,51 +1,31 @@
--- When a run has to end by the verdict: nothing is wrong with its files, and no count rises.
-use Rattle.std.specs.Prelude.{◌≡◌, ℕ, ◌≤◌, List, length, Some, IsSomeAnd, Ok, ◌⊎◌}
+-- When a run has to end by the meaning of its command: no count of its files or of the sink rises.
+use Rattle.std.specs.Prelude.{◌≡◌, ℕ, List, map, Contains, Some, ◌⊎◌}
 use Rattle.std.specs.FinMap.{get}
-use Rattle.edge_io.specs.Outside.{Held, Outside, Rose, most_bytes}
-use Rattle.ledger_state.specs.Ledger.{Ledger}
-use Rattle.ledger_state.specs.Spelling.{spelling}
-use Rattle.ledger_state.specs.Reading.{ledger_of}
-use Rattle.block_cli.specs.Words.{Validation, command_of}
-use Rattle.block_cli.specs.Verdict.{Verdict, Malformed, NotYet, WrongParent, BadJoin, Unordered, FootprintDiffers, ReceiptDiffers, StateDiffers, Accepted, IsVerdict}
+use Rattle.edge_io.specs.Outside.{Held, Outside, Rose}
+use Rattle.block_cli.specs.Commands.{Name, Command, command_of, reads, writes}
+use Rattle.block_cli.specs.Answers.{Answer, limited}
+use Rattle.block_cli.specs.Meaning.{Means}
 use Rattle.block_cli.specs.Seen.{Seen}
 use Rattle.block_cli.specs.declared.status.Status.{Status}
-use Rattle.block_cli.specs.declared.status.Status.TheVariants.{Done, Refused, NoMemory}
+use Rattle.block_cli.specs.declared.status.Status.TheVariants.{NoMemory}
 
 -- no count of the file rose
-pub record IsQuiet (name : List ℕ) (old new : Outside) : Type 0 where
+pub record IsQuiet (name : Name) (old new : Outside) : Type 0 where
   pub reads : ¬ Rose (old.read_faults name) (new.read_faults name)
   pub writes : ¬ Rose (old.write_faults name) (new.write_faults name)
   pub longs : ¬ Rose (old.long_reads name) (new.long_reads name)
 
--- no count of a file that the words name rose, nor the sink's
-pub record AllQuiet (c : Validation) (old new : Seen) : Type 0 where
-  pub state : IsQuiet c.state old.files new.files
-  pub block : IsQuiet c.block old.files new.files
-  pub next : IsQuiet c.next old.files new.files
+-- no count of a file that the command reads or writes rose, nor the sink's
+pub record AllQuiet (c : Command) (old new : Seen) : Type 0 where
+  pub reads : (name : Name) → Contains (reads c) name → IsQuiet name old.files new.files
+  pub writes : (name : Name) → Contains (writes c) name → IsQuiet name old.files new.files
   pub sink : ¬ Rose old.sink.faults new.sink.faults
 
--- no cause of BadInput holds: STATE is in its grammar, and neither a file that is read nor NEXT is longer than 64 MiB
-pub record IsSound (c : Validation) (held : Held) (s : Ledger) (bytes : List ℕ) : Type 0 where
-  pub state : IsSomeAnd (get held c.state) (λ spelt. (length spelt ≤ most_bytes) × (ledger_of spelt ≡ Ok s))
-  pub block : get held c.block ≡ Some bytes
-  pub short : length bytes ≤ most_bytes
-  pub next : (after : Ledger) → IsVerdict s bytes (Accepted after) → length (spelling after) ≤ most_bytes
-
--- Refused unless the block is accepted
-abbrev pub status_of : Verdict → Status
-status_of (Malformed p) = Refused
-status_of (NotYet p) = Refused
-status_of WrongParent = Refused
-status_of (BadJoin j) = Refused
-status_of (Unordered i j c) = Refused
-status_of (FootprintDiffers i) = Refused
-status_of (ReceiptDiffers i) = Refused
-status_of StateDiffers = Refused
-status_of (Accepted after) = Done
-
--- Where the words are a command, nothing is wrong with its files, and no count rises, the verdict decides, want of memory aside.
+-- Where the words are a command, its files hold these contents, and no count rises, the status is that of
+-- an answer that the command means by them, want of memory aside.
 abbrev pub Completes : List (List ℕ) → Seen → Status → Seen → Type 0
 Completes words old status new =
-    (c : Validation) (held : Held) (s : Ledger) (bytes : List ℕ) →
-    command_of words ≡ Some c → old.files.told ≡ Some held → IsSound c held s bytes → AllQuiet c old new →
-    (status ≡ NoMemory) ⊎ ((v : Verdict) × IsVerdict s bytes v × (status ≡ status_of v))
+    (c : Command) (held : Held) (contents : List (List ℕ)) →
+    command_of words ≡ Some c → old.files.told ≡ Some held →
+    map (λ name. get held name) (reads c) ≡ map (λ bytes. Some bytes) contents → AllQuiet c old new →
+    (status ≡ NoMemory) ⊎ ((answer : Answer) × Means c contents answer × (status ≡ (limited answer).status))

@@ -1,38 +1,68 @@
--- What functions inside promise each other of files and the sink: what was read, and what is done with an answer.
-use Rattle.std.specs.Prelude.{◌≡◌, ℕ, List, length, IfSome, IsSomeAnd, Result, Ok, Err, ◌⊎◌, ◌≤◌, OnOk, OnErr}
+-- What functions inside promise each other of commands, files and the sink.
+use Rattle.std.specs.Prelude.{◌≡◌, ℕ, Bool, ◌&&◌, ◌||◌, ◌==◌, nat_lt, slice_index, List, [], length, map, All, Option, Some, None, Result, Ok, Err, OnOk, OnErr, ◌⊎◌}
 use Rattle.std.specs.Global.{Vec}
-use Rattle.std.specs.FinMap.{get}
-use Rattle.edge_io.specs.Outside.{Outside, Rose, Taken, Takes, most_bytes}
-use Rattle.block_cli.specs.Words.{Validation}
-use Rattle.block_cli.specs.declared.words.Validation.{Validation as Words}
-use Rattle.block_cli.specs.Report.{cannot_write_line}
-use Rattle.block_cli.specs.Meaning.{Found, Long, Bytes, found, Answer}
-use Rattle.block_cli.specs.Seen.{Seen, SameFiles, Written, OthersSame, Prints, PrintsAll}
-use Rattle.block_cli.specs.Runs.{GivesUp}
+use Rattle.edge_io.specs.Outside.{Outside, Rose, HasRoom, Taken, Takes}
+use Rattle.block_cli.specs.declared.command.Command.{Command as Asked}
+use Rattle.block_cli.specs.declared.command.Command.TheVariants as asked
+use Rattle.block_cli.specs.declared.answer.File.{File as Made}
+use Rattle.block_cli.specs.declared.answer.Answer.{Answer as Given}
+use Rattle.block_cli.specs.declared.answer.Answer.TheVariants as given
+use Rattle.block_cli.specs.declared.input.Stop.{Stop}
+use Rattle.block_cli.specs.declared.input.Stop.TheVariants as stops
 use Rattle.block_cli.specs.declared.status.Status.{Status}
-use Rattle.block_cli.specs.declared.status.Status.TheVariants as statuses
-use Rattle.block_cli.specs.declared.validate.Stop.{Stop}
-use Rattle.block_cli.specs.declared.validate.Stop.TheVariants as stops
+use Rattle.block_cli.specs.declared.status.Status.TheVariants.{Done, Refused, Usage, ReadFault, WriteFault, NoMemory, BadInput}
+use Rattle.block_cli.specs.Commands.{Name, Command, Validate}
+use Rattle.block_cli.specs.Report.{cannot_write_line}
+use Rattle.block_cli.specs.Answers.{File, Answer, done}
+use Rattle.block_cli.specs.Inputs.{AreRead, StopsAtLong, StopsAtFault}
+use Rattle.block_cli.specs.Seen.{Seen, SameFiles, Written, StopsWriting, Prints, PrintsAll}
+use Rattle.block_cli.specs.Runs.{GivesUp}
 
--- the words of a command
-abbrev pub view : Words → Validation
-view w = record { state = w.state.now; block = w.block.now; next = w.next.now }
+-- ---- values as contracts see them
 
--- told contents show a file so
-abbrev pub Shows : Outside → List ℕ → Found → Type 0
-Shows old name file = IfSome old.told (λ held. file ≡ found (get held name))
+abbrev pub command_in : Asked → Command
+command_in (asked.Validate state block next workers) = Validate state.now block.now next.now workers
 
--- what reading the state and then the block came to
-abbrev pub ReadsBoth : Validation → Outside → Result (Vec ℕ × Vec ℕ) Stop → Outside → Type 0
-ReadsBoth c old (Ok files) new = Shows old c.state (Bytes files.0.items) × Shows old c.block (Bytes files.1.items)
-ReadsBoth c old (Err stops.Memory) new = Unit {0}
-ReadsBoth c old (Err stops.StateFailed) new = Rose (old.read_faults c.state) (new.read_faults c.state)
-ReadsBoth c old (Err stops.StateTooLong) new = Shows old c.state Long × Rose (old.long_reads c.state) (new.long_reads c.state)
-ReadsBoth c old (Err stops.BlockFailed) new =
-    IfSome old.told (λ held. IsSomeAnd (get held c.state) (λ bytes. length bytes ≤ most_bytes))
-    × Rose (old.read_faults c.block) (new.read_faults c.block)
-ReadsBoth c old (Err stops.BlockTooLong) new =
-    (state : List ℕ) × Shows old c.state (Bytes state) × Shows old c.block Long × Rose (old.long_reads c.block) (new.long_reads c.block)
+abbrev pub file_in : Made → File
+file_in file = (file.name.now, file.bytes.items)
+
+abbrev pub files_in : List Made → List File
+files_in = map file_in
+
+abbrev pub answer_in : Given → Answer
+answer_in (given.Done text files) = done text.items (files_in files.items)
+answer_in (given.Refused text) = record { status = Refused; text = text.items; written = [] }
+answer_in (given.BadInput text) = record { status = BadInput; text = text.items; written = [] }
+
+-- the bytes of vectors
+abbrev pub bytes_in : List (Vec ℕ) → List (List ℕ)
+bytes_in = map (λ (v : Vec ℕ). v.items)
+
+-- ---- words
+
+-- a sign, or a zero that isn't all of the word
+abbrev pub begins_otherwise : List ℕ → Bool
+begins_otherwise word = nat_lt 0 (length word) && ((slice_index word 0 == 43) || ((slice_index word 0 == 48) && nat_lt 1 (length word)))
+
+-- ---- reading
+
+-- what reading files in order comes to
+abbrev pub ReadsAll : List Name → Outside → Result (Vec (Vec ℕ)) Stop → Outside → Type 0
+ReadsAll names old (Ok contents) new = AreRead names (bytes_in contents.items) old
+ReadsAll names old (Err stops.NoMemory) new = Unit {0}
+ReadsAll names old (Err (stops.CannotRead name)) new = StopsAtFault names name.now old new
+ReadsAll names old (Err (stops.TooLong name)) new = StopsAtLong names name.now old new
+
+-- ---- writing
+
+-- there is room for each file
+abbrev pub HaveRoom : List File → Outside → Type 0
+HaveRoom files seen = All (λ file. HasRoom seen file.0 (length file.1)) files
+
+-- what writing files in order comes to: all are written, or the first that couldn't be is named
+abbrev pub WritesAll : List File → Outside → Option Name → Outside → Type 0
+WritesAll files old None new = Written files old new
+WritesAll files old (Some name) new = StopsWriting files name old new
 
 -- so much of a text was printed
 pub record PrintsOn {E : Type 0} (old : Taken) (text : List ℕ) (result : Result Unit E) (new : Taken) : Type 0 where
@@ -41,38 +71,40 @@ pub record PrintsOn {E : Type 0} (old : Taken) (text : List ℕ) (result : Resul
   pub ok : OnOk result (count ≡ length text)
   pub err : OnErr result (Rose old.faults new.faults)
 
--- the answer's text was printed alone
+-- ---- what is done with an answer
+
+-- its text is printed, and nothing is written
 pub record PrintsOnly (answer : Answer) (status : Status) (old new : Seen) : Type 0 where
   pub is : answer.status ≡ status
-  pub same : SameFiles old new
+  pub same : SameFiles old.files new.files
   pub printed : Prints old.sink answer.text new.sink
 
--- the answer was written and printed
+-- it is written and printed
 pub record Saves (answer : Answer) (old new : Seen) : Type 0 where
-  pub is : answer.status ≡ statuses.Done
-  pub written : Written answer old new
+  pub is : answer.status ≡ Done
+  pub written : Written answer.written old.files new.files
   pub printed : PrintsAll old.sink answer.text new.sink
 
--- the answer was written, and not all of it printed
-pub record SavesOnly (answer : Answer) (old new : Seen) : Type 0 where
-  pub is : answer.status ≡ statuses.Done
-  pub written : Written answer old new
+-- it is written, and not all of it printed
+pub record SavesUntold (answer : Answer) (old new : Seen) : Type 0 where
+  pub is : answer.status ≡ Done
+  pub written : Written answer.written old.files new.files
   pub rose : Rose old.sink.faults new.sink.faults
   pub printed : Prints old.sink answer.text new.sink
 
--- the answer was not written
-pub record SavesNone (c : Validation) (answer : Answer) (old new : Seen) : Type 0 where
-  pub is : answer.status ≡ statuses.Done
-  pub rose : Rose (old.files.write_faults c.next) (new.files.write_faults c.next)
-  pub others : OthersSame c.next old new
-  pub printed : Prints old.sink (cannot_write_line c.next) new.sink
+-- one of its files couldn't be written
+pub record SavesPart (answer : Answer) (old new : Seen) : Type 0 where
+  pub is : answer.status ≡ Done
+  pub name : Name
+  pub stops : StopsWriting answer.written name old.files new.files
+  pub printed : Prints old.sink (cannot_write_line name) new.sink
 
--- what is done with an answer, by the status
-abbrev pub Ends : Validation → Answer → Seen → Status → Seen → Type 0
-Ends c answer old statuses.Done new = Saves answer old new
-Ends c answer old statuses.Refused new = PrintsOnly answer statuses.Refused old new
-Ends c answer old statuses.Usage new = ⊥
-Ends c answer old statuses.ReadFault new = ⊥
-Ends c answer old statuses.WriteFault new = SavesNone c answer old new ⊎ SavesOnly answer old new
-Ends c answer old statuses.NoMemory new = GivesUp old new
-Ends c answer old statuses.BadInput new = PrintsOnly answer statuses.BadInput old new
+-- by the status that it ends with
+abbrev pub Gives : Answer → Seen → Status → Seen → Type 0
+Gives answer old Done new = Saves answer old new
+Gives answer old Refused new = PrintsOnly answer Refused old new
+Gives answer old Usage new = ⊥
+Gives answer old ReadFault new = ⊥
+Gives answer old WriteFault new = SavesPart answer old new ⊎ SavesUntold answer old new
+Gives answer old NoMemory new = GivesUp old new
+Gives answer old BadInput new = PrintsOnly answer BadInput old new

@@ -1,10 +1,14 @@
 -- what the public contract rests on
-pub mod Words
+pub mod Numbers
+pub mod Commands
+pub mod Statuses
 pub mod Report
+pub mod Answers
 pub mod Verdict
+pub mod Validating
 pub mod Meaning
 pub mod Seen
-pub mod Causes
+pub mod Inputs
 pub mod Runs
 pub mod Completeness
 -- what functions inside promise each other

@@ -6,6 +6,8 @@ use Rattle.cell_names.specs.declared.cell.Cell.{Cell}
 use Rattle.cell_names.specs.declared.cell.Cell.TheVariants.{Balance}
 use Rattle.ledger_state.specs.Ledger.{Ledger}
 use Rattle.state_digest.specs.Digest.{digest_of}
+use Rattle.block_cli.specs.declared.refusal.Refusal.{Refusal}
+use Rattle.block_cli.specs.declared.refusal.Refusal.TheVariants.{Malformed, NotYet, WrongParent, BadJoin, Unordered, FootprintDiffers, ReceiptDiffers, StateDiffers}
 
 -- a line ends with a newline
 abbrev pub line : List ℕ → List ℕ
@@ -33,7 +35,7 @@ refused_line why = line (codes "refused: " ++ why)
 
 -- the level and the digest of the state after the block
 abbrev pub accepted_line : Ledger → List ℕ
-accepted_line s = line (codes "accepted, level " ++ decimal s.level ++ codes ", state " ++ encode_lower (digest_of s.balances))
+accepted_line s = line (codes "accepted, level " ++ decimal s.level ++ codes ", state " ++ encode_lower (digest_of s))
 
 -- ---- what stands in a line of a bad file or a refused block
 
@@ -62,3 +64,14 @@ footprint_differs i = codes "FootprintDiffers " ++ decimal i
 
 abbrev pub receipt_differs : ℕ → List ℕ
 receipt_differs i = codes "ReceiptDiffers " ++ decimal i
+
+-- why a block is refused
+abbrev pub refusal_text : Refusal → List ℕ
+refusal_text (Malformed p) = malformed p
+refusal_text (NotYet p) = not_yet p
+refusal_text WrongParent = codes "WrongParent"
+refusal_text (BadJoin j) = bad_join j
+refusal_text (Unordered i j c) = unordered i j c
+refusal_text (FootprintDiffers i) = footprint_differs i
+refusal_text (ReceiptDiffers i) = receipt_differs i
+refusal_text StateDiffers = codes "StateDiffers"

@@ -1,8 +1,9 @@
 -- What is seen of the files and of the sink, and what a run leaves of them.
-use Rattle.std.specs.Prelude.{◌≡◌, ◌≢◌, ℕ, List, length, Some, IfSome, IsSomeAnd, ◌⊎◌}
+use Rattle.std.specs.Prelude.{◌≡◌, ◌≢◌, ℕ, List, ◌∷◌, ◌++◌, length, Some, IfSome, IsSomeAnd, ◌⊎◌}
 use Rattle.std.specs.FinMap.{get}
 use Rattle.edge_io.specs.Outside.{Outside, Rose, Taken, Takes}
-use Rattle.block_cli.specs.Meaning.{Answer, held_after}
+use Rattle.block_cli.specs.Commands.{Name}
+use Rattle.block_cli.specs.Answers.{File, held_after}
 
 -- what is seen from outside
 pub record Seen : Type 0 where
@@ -13,16 +14,22 @@ abbrev pub seen_of : Outside → Taken → Seen
 seen_of files sink = record { files = files; sink = sink }
 
 -- each file holds what it held
-abbrev pub SameFiles : Seen → Seen → Type 0
-SameFiles old new = new.files.told ≡ old.files.told
+abbrev pub SameFiles : Outside → Outside → Type 0
+SameFiles old new = new.told ≡ old.told
 
--- the answer's files hold what is written, all others what they held
-abbrev pub Written : Answer → Seen → Seen → Type 0
-Written answer old new = IfSome old.files.told (λ held. new.files.told ≡ Some (held_after held answer.written))
+-- these files hold what was written, all others what they held
+abbrev pub Written : List File → Outside → Outside → Type 0
+Written files old new = IfSome old.told (λ held. new.told ≡ Some (held_after held files))
 
--- each file but this one holds what it held
-abbrev pub OthersSame : List ℕ → Seen → Seen → Type 0
-OthersSame name old new = IfSome old.files.told (λ held. IsSomeAnd new.files.told (λ now. (q : List ℕ) → q ≢ name → get now q ≡ get held q))
+-- of these files one couldn't be written: those before it are written, and all others hold what they held
+pub record StopsWriting (files : List File) (name : Name) (old new : Outside) : Type 0 where
+  pub before : List File
+  pub bytes : List ℕ
+  pub after : List File
+  pub order : files ≡ before ++ (name, bytes) ∷ after
+  pub rose : Rose (old.write_faults name) (new.write_faults name)
+  pub others : IfSome old.told (λ held. IsSomeAnd new.told (λ now.
+      (q : Name) → q ≢ name → get now q ≡ get (held_after held before) q))
 
 -- a beginning of the text was taken: all of it, unless the sink's count rose
 pub record Prints (old : Taken) (text : List ℕ) (new : Taken) : Type 0 where

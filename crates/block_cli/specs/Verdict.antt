@@ -1,31 +1,31 @@
 -- The verdict on a block, by the state that it stands on: the first line of the table that holds.
-use Rattle.std.specs.Prelude.{◌≡◌, ◌≢◌, ℕ, ◌+◌, ◌<◌, ◌≤◌, List, length, Result, Ok, Err, slice_get}
-use Rattle.cell_names.specs.declared.cell.Cell.{Cell}
+use Rattle.std.specs.Prelude.{◌≡◌, ◌≢◌, ◌↔◌, ℕ, ◌+◌, ◌<◌, ◌≤◌, List, length, Result, Ok, Err, slice_get}
 use Rattle.byte_fields.specs.Stops.{Stop}
 use Rattle.byte_fields.specs.Stops as stops
-use Rattle.ledger_state.specs.Ledger.{Ledger}
-use Rattle.block_codec.specs.Block.{BlockView}
+use Rattle.byte_fields.specs.Laws.{IsBytes}
+use Rattle.edge_io.specs.Outside.{most_bytes}
+use Rattle.ledger_state.specs.Ledger.{Ledger, supply}
+use Rattle.ledger_state.specs.Reading.{ledger_of}
+use Rattle.ledger_state.specs.Spelling.{IsLedger}
+use Rattle.ledger_state.specs.Spelling.{spelling as spelt}
+use Rattle.block_codec.specs.Block.{BlockView, IsBlock}
+use Rattle.block_codec.specs.Spelling.{spelling}
 use Rattle.block_codec.specs.Reading.{block_of}
 use Rattle.join_schedule.specs.Joins.{AreJoins, IsFirstBad}
 use Rattle.join_schedule.specs.Cover.{Cover, IsFirstUnordered}
 use Rattle.state_digest.specs.Digest.{digest_of}
 use Rattle.plain_transfers.specs.Run.{Run, run_all}
+use Rattle.block_cli.specs.declared.refusal.Refusal.{Refusal}
+use Rattle.block_cli.specs.declared.refusal.Refusal.TheVariants.{Malformed, NotYet, WrongParent, BadJoin, Unordered, FootprintDiffers, ReceiptDiffers, StateDiffers}
 
--- what a block is worth on a state
+-- what a block is worth on a state: it is refused, or it is true and leaves this state
 pub data Verdict : Type 0 where
-  Malformed : ℕ → Verdict
-  NotYet : ℕ → Verdict
-  WrongParent : Verdict
-  BadJoin : ℕ → Verdict
-  Unordered : ℕ → ℕ → Cell → Verdict
-  FootprintDiffers : ℕ → Verdict
-  ReceiptDiffers : ℕ → Verdict
-  StateDiffers : Verdict
+  Refused : Refusal → Verdict
   Accepted : Ledger → Verdict
 
 -- its parent is the state's digest, its level the next one, its time not before the state's
 pub record StandsOn (s : Ledger) (b : BlockView) : Type 0 where
-  pub parent : b.parent ≡ digest_of s.balances
+  pub parent : b.parent ≡ digest_of s
   pub level : b.level ≡ s.level + 1
   pub now : s.now ≤ b.now
 
@@ -54,23 +54,31 @@ TellsFirst n s b = (i : ℕ) → i < n → SameFootprint s b i × SameReceipt s 
 abbrev pub state_after : Ledger → BlockView → Ledger
 state_after s b = record { level = b.level; now = b.now; balances = (serial_run s b).balances }
 
--- the lines of the table, for bytes that are a block
+-- the lines of the table by which bytes that are a block are refused
+abbrev pub IsRefusedOn : Ledger → BlockView → Refusal → Type 0
+IsRefusedOn s b (Malformed p) = ⊥
+IsRefusedOn s b (NotYet p) = ⊥
+IsRefusedOn s b WrongParent = ¬ StandsOn s b
+IsRefusedOn s b (BadJoin j) = StandsOn s b × IsFirstBad b.joins j
+IsRefusedOn s b (Unordered i j c) = StandsOn s b × AreJoins b.joins × IsFirstUnordered b.joins b.footprints i j c
+IsRefusedOn s b (FootprintDiffers i) = IsOrdered s b × (i < length b.ops) × TellsFirst i s b × (¬ SameFootprint s b i)
+IsRefusedOn s b (ReceiptDiffers i) = IsOrdered s b × (i < length b.ops) × TellsFirst i s b × SameFootprint s b i × (¬ SameReceipt s b i)
+IsRefusedOn s b StateDiffers = IsOrdered s b × TellsFirst (length b.ops) s b × (b.state ≢ digest_of (state_after s b))
+
+-- the last line: all that is published is so
+abbrev pub IsTrueOn : Ledger → BlockView → Type 0
+IsTrueOn s b = IsOrdered s b × TellsFirst (length b.ops) s b × (b.state ≡ digest_of (state_after s b))
+
+-- the verdict on bytes that are a block
 abbrev pub IsVerdictOn : Ledger → BlockView → Verdict → Type 0
-IsVerdictOn s b (Malformed p) = ⊥
-IsVerdictOn s b (NotYet p) = ⊥
-IsVerdictOn s b WrongParent = ¬ StandsOn s b
-IsVerdictOn s b (BadJoin j) = StandsOn s b × IsFirstBad b.joins j
-IsVerdictOn s b (Unordered i j c) = StandsOn s b × AreJoins b.joins × IsFirstUnordered b.joins b.footprints i j c
-IsVerdictOn s b (FootprintDiffers i) = IsOrdered s b × (i < length b.ops) × TellsFirst i s b × (¬ SameFootprint s b i)
-IsVerdictOn s b (ReceiptDiffers i) = IsOrdered s b × (i < length b.ops) × TellsFirst i s b × SameFootprint s b i × (¬ SameReceipt s b i)
-IsVerdictOn s b StateDiffers = IsOrdered s b × TellsFirst (length b.ops) s b × (b.state ≢ digest_of (serial_run s b).balances)
-IsVerdictOn s b (Accepted after) = IsOrdered s b × TellsFirst (length b.ops) s b × (b.state ≡ digest_of (serial_run s b).balances) × (after ≡ state_after s b)
+IsVerdictOn s b (Refused why) = IsRefusedOn s b why
+IsVerdictOn s b (Accepted after) = IsTrueOn s b × (after ≡ state_after s b)
 
 -- the verdict on bytes that are read so
 abbrev pub IsVerdictOf : Ledger → Result BlockView Stop → Verdict → Type 0
 IsVerdictOf s (Ok b) v = IsVerdictOn s b v
-IsVerdictOf s (Err (stops.Stopped stops.Faulty p)) v = v ≡ Malformed p
-IsVerdictOf s (Err (stops.Stopped stops.NotYet p)) v = v ≡ NotYet p
+IsVerdictOf s (Err (stops.Stopped stops.Faulty p)) v = v ≡ Refused (Malformed p)
+IsVerdictOf s (Err (stops.Stopped stops.NotYet p)) v = v ≡ Refused (NotYet p)
 
 -- the verdict on the bytes of a block
 abbrev pub IsVerdict : Ledger → List ℕ → Verdict → Type 0
@@ -79,3 +87,37 @@ IsVerdict s bytes v = IsVerdictOf s (block_of bytes) v
 -- a state and bytes have one verdict
 abbrev pub HaveOneVerdict : Type 0
 HaveOneVerdict = (s : Ledger) (bytes : List ℕ) (v w : Verdict) → IsVerdict s bytes v → IsVerdict s bytes w → v ≡ w
+
+-- ---- what the table says of blocks as a whole
+
+-- all that a block publishes is so: its place, an order of all conflicts, the footprints and receipts of the run, and the state that the run leaves
+pub record IsTrueBlock (s : Ledger) (b : BlockView) : Type 0 where
+  pub stands : StandsOn s b
+  pub joins : AreJoins b.joins
+  pub covered : Cover b.joins b.footprints
+  pub footprints : b.footprints ≡ (serial_run s b).footprints
+  pub receipts : b.receipts ≡ (serial_run s b).receipts
+  pub state : b.state ≡ digest_of (state_after s b)
+
+-- bytes are accepted exactly where they spell a true block, and the state after it is left
+abbrev pub AcceptedBytesAreTrueBlocks : Type 0
+AcceptedBytesAreTrueBlocks =
+    (s after : Ledger) (bytes : List ℕ) → IsBytes bytes →
+    IsVerdict s bytes (Accepted after)
+    ↔ ((b : BlockView) × IsBlock b × (bytes ≡ spelling b) × IsTrueBlock s b × (after ≡ state_after s b))
+
+-- an accepted block leaves a ledger with the old supply, which is read again from its file
+pub record LeavesLedger (s after : Ledger) : Type 0 where
+  pub lawful : IsLedger after
+  pub supply : supply after.balances ≡ supply s.balances
+  pub again : ledger_of (spelt after) ≡ Ok after
+
+-- where the file isn't longer than 64 MiB
+abbrev pub AcceptedBlocksLeaveLedgers : Type 0
+AcceptedBlocksLeaveLedgers =
+    (s after : Ledger) (bytes : List ℕ) → IsBytes bytes → IsLedger s → IsVerdict s bytes (Accepted after) →
+    length (spelt after) ≤ most_bytes → LeavesLedger s after
+
+-- a state and bytes have a verdict
+abbrev pub HaveAVerdict : Type 0
+HaveAVerdict = (s : Ledger) (bytes : List ℕ) → IsBytes bytes → (v : Verdict) × IsVerdict s bytes v

@@ -1,23 +1,33 @@
 //! A contract chain in files: `validate STATE BLOCK NEXT WORKERS` reads a state and a block, and
 //! writes the next state or refuses the block.
 //!
-//! - `words`: which words are a command. `run`: the top call; begin there.
-//! - `validate`: a validation from the bytes of its files to what is written and printed.
+//! - `laws`: what is true of the definitions. `run`: the top call; begin there.
+//! - `words`: which words ask for a command. `command`: the commands, what each reads, and its answer.
+//! - `input`: reading the files of a command. `answer`, `output`: what is written and printed.
+//! - `validate`: the answer to the bytes of a state and of a block, of the command of that name.
 //! - `verdict`: what a block is worth on a state. `replay`: its operations, run again against what
 //!   it publishes of them. `refusal`: why it is refused. `next`: the state after it, with its digest.
 //! - `report`: every line that is printed, over `print`. `status`: how a run ends.
+//! - `start`: the words of the process.
 //!
-//! `specs/Runs.antt` says what a run does, by its status; `specs/Meaning.antt` what its words mean
-//! for the contents of the files. The order of causes is: the words; reading the state and then the
-//! block; the state's grammar; the verdict; the next state's length; its room; writing; printing.
+//! `specs/Runs.antt` says what a run of any command does, by its status; `specs/Meaning.antt` what
+//! each command means for the contents of its files. The order of causes is: the words; reading the
+//! files in their order; their grammars in that order; the work; the length of each file to be
+//! written; the room for it; writing in order; printing.
 #![tactic(auto)]
 
+mod answer;
+mod command;
+mod input;
+mod laws;
 mod next;
+mod output;
 mod print;
 mod refusal;
 mod replay;
 mod report;
 mod run;
+mod start;
 mod status;
 #[cfg(test)]
 mod tests;
@@ -25,17 +35,12 @@ mod validate;
 mod verdict;
 mod words;
 
-use edge_io::{DiskFiles, OpenGate, StdSink};
+use edge_io::{DiskFiles, StdSink};
+use std::io;
 use std::process::ExitCode;
-use std::{env, io};
 
-fn main(rt: HostRuntime) -> io::Result<ExitCode> {
-    let mut words = Vec::new(rt.alloc());
-    for word in env::args(&rt)?.skip(1) {
-        words.push(word)?;
-    }
+fn main(rt: HostRuntime) -> ExitCode {
     let mut files = DiskFiles::new(&rt);
     let mut out = StdSink::new(io::writer(&rt));
-    let status = run::run(&rt, &words, &mut files, &mut out, &OpenGate);
-    Ok(ExitCode::from(status as u8))
+    start::start(&rt, &mut files, &mut out)
 }

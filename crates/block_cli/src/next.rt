@@ -11,7 +11,7 @@ use std::alloc::{AllocError, Global};
 pub struct Next {
     pub state: State,
     pub digest: [u8; 32],
-    ghost digested: { digest ≡ digest_of state.balances },
+    ghost digested: { digest ≡ digest_of state },
 }
 
 impl Next {

@@ -2,9 +2,8 @@
 ghost use Rattle.std.specs.Prelude.{◌≡◌, ◌++◌, IfOk, OnOk, codes};
 ghost use Rattle.std.specs.Fmt.{decimal};
 ghost use Rattle.state_digest.specs.Digest.{digest_of};
-ghost use Rattle.block_cli.specs.Report.{line, usage_line, cannot_read_line, cannot_write_line, memory_line, bad_input_line, refused_line, accepted_line, malformed, not_yet, unordered, cell_text};
+ghost use Rattle.block_cli.specs.Report.{line, usage_line, cannot_read_line, cannot_write_line, memory_line, bad_input_line, refused_line, accepted_line, malformed, not_yet, unordered, cell_text, refusal_text};
 ghost use Rattle.block_cli.specs.Seen.{Prints};
-ghost use Rattle.block_cli.specs.Judging.{words_of};
 
 use crate::print::print_three;
 use crate::refusal::Refusal;
@@ -84,14 +83,14 @@ pub fn not_yet(alloc: Global, name: &str, place: usize) -> Result<Vec<u8>, Alloc
 
 /// A block is refused, and why.
 pub fn refused(alloc: Global, why: &Refusal) -> Result<Vec<u8>, AllocError>
-    ensures { IfOk result (λ v. v.items ≡ refused_line (words_of why.now)) }
+    ensures { IfOk result (λ v. v.items ≡ refused_line (refusal_text why.now)) }
 {
-    let why = words_of(alloc, why)?;
+    let why = refusal_text(alloc, why)?;
     line_of(alloc, b"", b"refused: ", &why)
 }
 
-fn words_of(alloc: Global, why: &Refusal) -> Result<Vec<u8>, AllocError>
-    ensures { IfOk result (λ v. v.items ≡ words_of why.now) }
+fn refusal_text(alloc: Global, why: &Refusal) -> Result<Vec<u8>, AllocError>
+    ensures { IfOk result (λ v. v.items ≡ refusal_text why.now) }
 {
     match why {
         Refusal::Malformed(place) => numbered(alloc, b"Malformed at ", *place as u64),
@@ -164,7 +163,7 @@ fn line_of(alloc: Global, a: &[u8], b: &[u8], c: &[u8]) -> Result<Vec<u8>, Alloc
 
 /// A block is accepted: the level of the next state, and its digest.
 pub fn accepted(alloc: Global, next: &State, digest: &[u8; 32]) -> Result<Vec<u8>, AllocError>
-    requires { digest.now ≡ digest_of next.now.balances }
+    requires { digest.now ≡ digest_of next.now }
     ensures { IfOk result (λ v. v.items ≡ accepted_line next.now) }
 {
     let level = next.head().level.to_string(alloc)?;

@@ -1,4 +1,9 @@
 //! How a run ends.
+ghost use Rattle.std.specs.Prelude.{◌≡◌};
+ghost use Rattle.std.specs.Process.{exit_status};
+ghost use Rattle.block_cli.specs.Statuses.{exit_number};
+
+use std::process::ExitCode;
 
 /// The status of a run; its number is the program's exit status.
 #[derive(Clone, Copy, Debug, PartialEq, Eq)]
@@ -17,4 +22,13 @@ pub enum Status {
     NoMemory = 5,
     /// A file other than the block is at fault.
     BadInput = 6,
+}
+
+impl Status {
+    /// What the process ends with.
+    pub fn exit_code(self) -> ExitCode
+        ensures { exit_status result ≡ exit_number self }
+    {
+        ExitCode::from(self as u8)
+    }
 }

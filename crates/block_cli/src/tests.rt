@@ -8,7 +8,7 @@ use std::test::Fail;
 
 /// Words that stand for bytes: accounts, the heads of a block and of the state after it at level 1
 /// and time 60, a call of `default` with Unit, no gas and turns, receipts, and digests of states.
-const BYTES: [(&str, &str); 15] = [
+const BYTES: [(&str, &str); 17] = [
     ("A", "0000000000000000000000000000000000000000000a"),
     ("B", "0000000000000000000000000000000000000000000b"),
     ("C", "0000000000000000000000000000000000000000000c"),
@@ -41,6 +41,14 @@ const BYTES: [(&str, &str); 15] = [
     (
         "PASSED_ON",
         "fef99a93dd22de98b5044b2c4c82b47d4eb740a2d12f374d79545cd0a0d66a6a",
+    ),
+    (
+        "RICH",
+        "fa576b20954688b301f979acca25750ce9e5691b7723d43e21037425f12ff78d",
+    ),
+    (
+        "HALVED",
+        "40bb8d7562d99b597cc404d1a8fc3ec4c69c53b574c59c1a8568a212e7952c2e",
     ),
 ];
 
@@ -336,10 +344,14 @@ struct Ended {
     next: Option<Vec<u8>>,
 }
 
-/// Runs the words where a call fails.
-fn ran<R: AllocGlobal + Abort>(rt: &R, words: &str, fault: Fault) -> Result<Ended, Fail> {
+/// Runs the words on these files where a call fails.
+fn ran_on<R: AllocGlobal + Abort>(
+    rt: &R,
+    words: &str,
+    mut files: MemFiles,
+    fault: Fault,
+) -> Result<Ended, Fail> {
     let alloc = rt.alloc();
-    let mut files = files_of(alloc)?;
     let mut out = MemSink::new(alloc);
     out.room(alloc, 1000)?;
     match fault {
@@ -359,6 +371,12 @@ fn ran<R: AllocGlobal + Abort>(rt: &R, words: &str, fault: Fault) -> Result<Ende
         None => None,
     };
     Ok(Ended { status, text, next })
+}
+
+/// Runs the words where a call fails.
+fn ran<R: AllocGlobal + Abort>(rt: &R, words: &str, fault: Fault) -> Result<Ended, Fail> {
+    let files = files_of(rt.alloc())?;
+    ran_on(rt, words, files, fault)
 }
 
 #[test]
@@ -407,5 +425,78 @@ fn a_validation_ends_by_its_first_cause(rt: HostRuntime) -> Result<(), Fail> {
         assert_eq!(rt; ended.text.as_slice(), text.as_bytes(), "{words}");
         assert_eq!(rt; ended.next.is_some(), *is_written, "{words}");
     }
+    Ok(())
+}
+
+/// So many copies of words that stand for bytes.
+fn put_copies(alloc: Global, count: u32, words: &str, bytes: &mut Vec<u8>) -> Result<(), Fail> {
+    let copy = bytes_of(alloc, words)?;
+    for _ in 0..count {
+        bytes.extend_from_slice(&copy)?;
+    }
+    Ok(())
+}
+
+/// 512 transfers of 1 from A, which has 1,000, to B, each joined to the one before it; but the last
+/// to none where a join is left out.
+fn long_block(alloc: Global, is_joined: bool) -> Result<Vec<u8>, Fail> {
+    let mut bytes = bytes_of(alloc, "464a4231 RICH 00000001 000000000000003c 00000200")?;
+    put_copies(alloc, 512, "A B CALL 0000000000000001 FREE", &mut bytes)?;
+    bytes.extend_from_slice(&0u32.to_be_bytes())?;
+    for earlier in 0..510u32 {
+        bytes.extend_from_slice(&1u32.to_be_bytes())?;
+        bytes.extend_from_slice(&earlier.to_be_bytes())?;
+    }
+    let last = if is_joined {
+        "00000001 000001fe"
+    } else {
+        "00000000"
+    };
+    put_copies(alloc, 1, last, &mut bytes)?;
+    put_copies(alloc, 512, "00000002 00 A 02 00 B 01", &mut bytes)?;
+    put_copies(alloc, 512, "APPLIED", &mut bytes)?;
+    put_copies(alloc, 1, "HALVED", &mut bytes)?;
+    Ok(bytes)
+}
+
+/// The state in which A has 1,000, and such a block.
+fn long_files(alloc: Global, is_joined: bool) -> Result<MemFiles, Fail> {
+    let rich = bytes_of(
+        alloc,
+        "464a5331 00000000 0000000000000000 00000000 00000001 00 A 05 00000000000003e8",
+    )?;
+    let mut files = MemFiles::new(alloc);
+    files.put(alloc, "rich", &rich)?;
+    files.put(alloc, "long", &long_block(alloc, is_joined)?)?;
+    Ok(files)
+}
+
+#[test]
+fn a_block_of_512_operations_is_accepted(rt: HostRuntime) -> Result<(), Fail> {
+    let alloc = rt.alloc();
+    let files = long_files(alloc, true)?;
+    let ended = ran_on(&rt, "validate rich long n 64", files, Fault::None)?;
+    let line = format!(in alloc; "accepted, level 1, state {}\n", digits_of("HALVED"))?;
+    let wanted = bytes_of(
+        alloc,
+        "LATER 00000002 00 A 05 00000000000001e8 00 B 05 0000000000000200",
+    )?;
+    let written = ended.next.ok_or("nothing is written")?;
+    assert_eq!(rt; ended.status, Status::Done);
+    assert_eq!(rt; ended.text.as_slice(), line.as_bytes());
+    assert_eq!(rt; written.as_slice(), wanted.as_slice());
+    Ok(())
+}
+
+#[test]
+fn a_block_whose_last_of_512_operations_has_no_join_is_refused(
+    rt: HostRuntime,
+) -> Result<(), Fail> {
+    let files = long_files(rt.alloc(), false)?;
+    let ended = ran_on(&rt, "validate rich long n 64", files, Fault::None)?;
+    let line = "refused: Unordered 0 511 balance 0x0000000000000000000000000000000000000000000a\n";
+    assert_eq!(rt; ended.status, Status::Refused);
+    assert_eq!(rt; ended.text.as_slice(), line.as_bytes());
+    assert!(rt; ended.next.is_none());
     Ok(())
 }

@@ -2,8 +2,8 @@
 ghost use Rattle.std.specs.Prelude.{◌≡◌, ◌↔◌, IfOk, IsTrue};
 ghost use Rattle.block_codec.specs.Block.{IsBlock};
 ghost use Rattle.join_schedule.specs.Joins.{AreJoins};
-ghost use Rattle.block_cli.specs.Verdict.{HaveOneVerdict, IsOrdered, IsVerdict, IsVerdictOn, StandsOn};
-ghost use Rattle.block_cli.specs.Judging.{OrdersOr, ConflictOr, verdict_in};
+ghost use Rattle.block_cli.specs.Verdict.{IsOrdered, IsVerdict, IsVerdictOn, StandsOn};
+ghost use Rattle.block_cli.specs.Judging.{AddsFew, OrdersOr, ConflictOr, verdict_in};
 
 use crate::next::Next;
 use crate::refusal::Refusal;
@@ -16,19 +16,14 @@ use ledger_state::State;
 use state_digest::digest;
 use std::alloc::{AllocError, Global};
 
-/// What a block is worth.
+/// What a block is worth on a state.
 #[derive(Drop)]
-pub enum Judgment {
+pub enum Verdict {
     /// It is refused.
     Refused(Refusal),
     /// It is true, and this is the next state.
     Accepted(Next),
 }
-
-/// A state and bytes have one verdict.
-pub fn verdict_is_one()
-    ensures { HaveOneVerdict }
-{}
 
 /// Whether a block stands on a state.
 fn is_on(alloc: Global, state: &State, block: &Block) -> Result<bool, AllocError>
@@ -70,43 +65,47 @@ fn disorder(alloc: Global, state: &State, block: &Block) -> Result<Option<Refusa
 }
 
 /// The verdict on a block whose operations are ordered.
-fn verdict_on_run(alloc: Global, state: State, block: &Block) -> Result<Judgment, AllocError>
+#[tactic(auto, using(crate::proofs::Sizes::few_more))]
+fn verdict_on_run(alloc: Global, state: State, block: &Block) -> Result<Verdict, AllocError>
     requires lawful { IsBlock block.now }
     requires ordered { IsOrdered state block.now }
-    ensures { IfOk result (λ v. IsVerdictOn state block.now (verdict_in v)) }
+    ensures verdict { IfOk result (λ v. IsVerdictOn state block.now (verdict_in v)) }
+    ensures few { IfOk result (λ v. AddsFew state (verdict_in v)) }
 {
     match replay(alloc, state, block)? {
-        Err(why) => Ok(Judgment::Refused(why)),
+        Err(why) => Ok(Verdict::Refused(why)),
         Ok(after) => {
             let next = Next::new(alloc, after)?;
             if next.digest == block.state {
-                Ok(Judgment::Accepted(next))
+                Ok(Verdict::Accepted(next))
             } else {
-                Ok(Judgment::Refused(Refusal::StateDiffers))
+                Ok(Verdict::Refused(Refusal::StateDiffers))
             }
         }
     }
 }
 
 /// The verdict on a block.
-fn verdict_on(alloc: Global, state: State, block: &Block) -> Result<Judgment, AllocError>
+fn verdict_on(alloc: Global, state: State, block: &Block) -> Result<Verdict, AllocError>
     requires { IsBlock block.now }
-    ensures { IfOk result (λ v. IsVerdictOn state block.now (verdict_in v)) }
+    ensures verdict { IfOk result (λ v. IsVerdictOn state block.now (verdict_in v)) }
+    ensures few { IfOk result (λ v. AddsFew state (verdict_in v)) }
 {
     match disorder(alloc, &state, block)? {
-        Some(why) => Ok(Judgment::Refused(why)),
+        Some(why) => Ok(Verdict::Refused(why)),
         None => verdict_on_run(alloc, state, block),
     }
 }
 
 /// The verdict on the bytes of a block. The state is let go once the next one stands.
-pub fn verdict_of(alloc: Global, state: State, bytes: &[u8]) -> Result<Judgment, AllocError>
-    ensures { IfOk result (λ v. IsVerdict state bytes.now (verdict_in v)) }
+pub fn verdict_of(alloc: Global, state: State, bytes: &[u8]) -> Result<Verdict, AllocError>
+    ensures verdict { IfOk result (λ v. IsVerdict state bytes.now (verdict_in v)) }
+    ensures few { IfOk result (λ v. AddsFew state (verdict_in v)) }
 {
     match read_block(alloc, bytes) {
         Err(FormatFault::NoMemory) => Err(AllocError),
-        Err(FormatFault::At(At(place))) => Ok(Judgment::Refused(Refusal::Malformed(place))),
-        Err(FormatFault::NotYet(place)) => Ok(Judgment::Refused(Refusal::NotYet(place))),
+        Err(FormatFault::At(At(place))) => Ok(Verdict::Refused(Refusal::Malformed(place))),
+        Err(FormatFault::NotYet(place)) => Ok(Verdict::Refused(Refusal::NotYet(place))),
         Ok(block) => verdict_on(alloc, state, &block),
     }
 }

@@ -1,54 +1,64 @@
 //! The words of the command line.
-ghost use Rattle.std.specs.Prelude.{◌≡◌, map, string_bytes};
+ghost use Rattle.std.specs.Prelude.{◌≡◌, ◌≤◌, map, string_bytes};
 ghost use Rattle.std.specs.Option.{option_map};
-ghost use Rattle.block_cli.specs.Words.{command_of, is_workers};
-ghost use Rattle.block_cli.specs.Inside.{view};
+ghost use Rattle.block_cli.specs.Numbers.{number_of, workers_of, most_number};
+ghost use Rattle.block_cli.specs.Commands.{command_of, validate_of};
+ghost use Rattle.block_cli.specs.Inside.{begins_otherwise, command_in};
 
-/// A validation: the two files that it reads, and the one that it writes.
-#[derive(Clone, Copy, Debug)]
-pub struct Validation<'a> {
-    pub state: &'a str,
-    pub block: &'a str,
-    pub next: &'a str,
+use crate::command::Command;
+use edge_io::Workers;
+
+/// Whether a word begins with a sign, or with a zero that isn't all of it.
+fn begins_otherwise(word: &str) -> bool
+    ensures { result ≡ begins_otherwise word.now }
+{
+    let bytes = word.as_bytes();
+    !bytes.is_empty() && (bytes[0] == b'+' || (bytes[0] == b'0' && bytes.len() > 1))
 }
 
-/// Whether a word is a number of workers.
-fn counts_workers(word: &[u8]) -> bool
-    ensures { result ≡ is_workers word.now }
+/// The number that a word spells in digits, without a leading zero.
+fn number_of(word: &str) -> Option<u64>
+    ensures { result ≡ number_of 0 most_number word.now }
 {
-    match word {
-        [a] => 49 <= *a && *a <= 57,
-        [a, b] => {
-            49 <= *a
-                && *a <= 54
-                && 48 <= *b
-                && *b <= 57
-                && 10 * u32::from(*a - 48) + u32::from(*b - 48) <= 64
-        }
-        _ => false,
+    if begins_otherwise(word) {
+        return None;
     }
+    word.parse().ok()
 }
 
-/// The command that the words are.
-#[tactic(auto, unfolding(crate::specs::Words::command_of))]
-pub fn read_words(words: &[String]) -> Option<Validation<'_>>
-    ensures { option_map view result ≡ command_of (map string_bytes words.now) }
+/// The number of workers that a word spells.
+fn workers_of(word: &str) -> Option<Workers>
+    ensures { result ≡ workers_of word.now }
 {
-    let [verb, state, block, next, workers] = words else {
+    Workers::new(number_of(word)?)
+}
+
+/// The words behind `validate`.
+fn validate_of(words: &[String]) -> Option<Command<'_>>
+    ensures { option_map command_in result ≡ validate_of (map string_bytes words.now) }
+{
+    let [state, block, next, workers] = words else {
         return None;
     };
-    let fits = verb.as_str() == "validate"
-        && !state.is_empty()
-        && !block.is_empty()
-        && !next.is_empty()
-        && block.as_str() != next.as_str()
-        && counts_workers(workers.as_bytes());
-    if !fits {
+    if state.is_empty() || block.is_empty() || next.is_empty() || block.as_str() == next.as_str() {
         return None;
     }
-    Some(Validation {
+    Some(Command::Validate {
         state: state.as_str(),
         block: block.as_str(),
         next: next.as_str(),
+        workers: workers_of(workers.as_str())?,
     })
+}
+
+/// The command that the words ask for.
+#[tactic(auto, unfolding(crate::specs::Commands::command_of))]
+pub fn command_of(words: &[String]) -> Option<Command<'_>>
+    ensures { option_map command_in result ≡ command_of (map string_bytes words.now) }
+{
+    let (verb, words) = words.split_first()?;
+    match verb.as_str() {
+        "validate" => validate_of(words),
+        _ => None,
+    }
 }

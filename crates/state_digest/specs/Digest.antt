@@ -1,9 +1,9 @@
--- The digest of balances: each cell falls into one of 256 buckets, and the buckets are hashed one after the other.
+-- The digest of a state: each cell falls into one of 256 buckets, and the buckets are hashed one after the other.
 use Rattle.std.specs.Prelude.{ℕ, zero, suc, ◌==◌, List, [], ◌∷◌, ◌++◌, filter, slice_index}
 use Rattle.std.specs.List.{flat_map}
 use Rattle.std.specs.FinMap.{entries}
 use Rattle.sha2.specs.Sha256.{sha256}
-use Rattle.ledger_state.specs.Ledger.{Balances}
+use Rattle.ledger_state.specs.Ledger.{Ledger}
 use Rattle.ledger_state.specs.Spelling.{cell}
 
 -- an address with its balance
@@ -31,6 +31,6 @@ bucket_digests (suc n) es = bucket_digests n es ++ sha256 (bucket_text n es)
 unfoldable pub book_digest : List ℕ
 book_digest = sha256 (0 ∷ 0 ∷ 0 ∷ 0 ∷ [])
 
--- the digest of a state with these balances; its level and time aren't in it
-unfoldable pub digest_of : Balances → List ℕ
-digest_of m = sha256 (book_digest ++ bucket_digests 256 (entries m))
+-- the digest of a state; its level and time aren't in it
+unfoldable pub digest_of : Ledger → List ℕ
+digest_of s = sha256 (book_digest ++ bucket_digests 256 (entries s.balances))

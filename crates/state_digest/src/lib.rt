@@ -10,7 +10,7 @@
 //! - `state`: the one public call, `digest`. Begin here.
 //! - `buckets`: a cell's bucket, and the hashers of all buckets, which are fed in one pass.
 //!
-//! `digest` equals `digest_of` of the balances (`specs/Digest.antt`), which stands on `sha2`'s function.
+//! `digest` equals `digest_of` of the state (`specs/Digest.antt`), which stands on `sha2`'s function.
 #![tactic(auto)]
 
 mod buckets;

@@ -17,7 +17,7 @@ fn digest_of_no_contracts() -> [u8; 32]
 #[tactic(auto, unfolding(crate::specs::Digest::digest_of))]
 /// The digest of a state, in one pass over its balances.
 pub fn digest(alloc: Global, state: &State) -> Result<[u8; 32], NoMemory>
-    ensures { IfOk result (λ d. d ≡ digest_of state.now.balances) }
+    ensures { IfOk result (λ d. d ≡ digest_of state.now) }
 {
     let mut hashers = new_hashers(alloc)?;
     for holding in state.holdings() {

@@ -1,5 +1,5 @@
 use Rattle.block_cli.proofs.OneVerdict.{one_verdict}
-use Rattle.block_cli.proofs.verdict.verdict_is_one.Goals as goal
+use Rattle.block_cli.proofs.laws.verdict_is_one.Goals as goal
 
 pub returns : goal.returns
 returns c = one_verdict

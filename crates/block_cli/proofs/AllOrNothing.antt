@@ -1,0 +1,42 @@
+-- An answer writes each file of its command under Done, and none under any other status.
+use Rattle.std.proofs.Common.{◌≡◌, ℕ, List, [], ◌∷◌, Option, Some, None, Result, Ok, Err, refl, sym, subst, inl, inr}
+use Rattle.byte_fields.specs.Stops.{Stop}
+use Rattle.byte_fields.specs.Stops as stops
+use Rattle.edge_io.specs.Outside.{Outside}
+use Rattle.ledger_state.specs.Ledger.{Ledger}
+use Rattle.ledger_state.specs.Reading.{ledger_of}
+use Rattle.block_cli.specs.Commands.{Name, Command, Validate}
+use Rattle.block_cli.specs.Report.{malformed, not_yet}
+use Rattle.block_cli.specs.Answers.{File, Answer, bad_input, first_too_long, limited_by, limited, WritesUnder}
+use Rattle.block_cli.specs.Verdict.{Verdict, Refused, Accepted}
+use Rattle.block_cli.specs.Validating.{answer_to, ValidatesOn}
+use Rattle.block_cli.specs.Meaning.{Means}
+use Rattle.block_cli.specs.Runs.{Answered}
+
+-- the answer is this one
+is_one : (c : Command) (answer one : Answer) → answer ≡ one → WritesUnder c one.status one.written → WritesUnder c answer.status answer.written
+is_one c answer one e h = subst (λ (a : Answer). WritesUnder c a.status a.written) (sym e) h
+
+by_verdict : (state block next : Name) (workers : ℕ) (v : Verdict) → WritesUnder (Validate state block next workers) (answer_to next v).status (answer_to next v).written
+by_verdict state block next workers (Refused why) = refl
+by_verdict state block next workers (Accepted s) = refl
+
+by_state : (state block next : Name) (workers : ℕ) (read : Result Ledger Stop) (bytes : List ℕ) (answer : Answer) → ValidatesOn state next read bytes answer → WritesUnder (Validate state block next workers) answer.status answer.written
+by_state state block next workers (Ok s) bytes answer (v, is, e) = is_one (Validate state block next workers) answer (answer_to next v) e (by_verdict state block next workers v)
+by_state state block next workers (Err (stops.Stopped stops.Faulty p)) bytes answer e = is_one (Validate state block next workers) answer (bad_input state (malformed p)) e refl
+by_state state block next workers (Err (stops.Stopped stops.NotYet p)) bytes answer e = is_one (Validate state block next workers) answer (bad_input state (not_yet p)) e refl
+
+pub all_or_nothing : (c : Command) (contents : List (List ℕ)) (answer : Answer) → Means c contents answer → WritesUnder c answer.status answer.written
+all_or_nothing (Validate state block next workers) (spelt ∷ bytes ∷ []) answer means = by_state state block next workers (ledger_of spelt) bytes answer means
+all_or_nothing (Validate state block next workers) [] answer means = absurd means
+all_or_nothing (Validate state block next workers) (x ∷ []) answer means = absurd means
+all_or_nothing (Validate state block next workers) (x ∷ y ∷ z ∷ zs) answer means = absurd means
+
+-- the limit of a file's length leaves it so
+limits : (c : Command) (answer : Answer) (file : Option File) → WritesUnder c answer.status answer.written → WritesUnder c (limited_by answer file).status (limited_by answer file).written
+limits c answer None h = h
+limits c answer (Some file) h = refl
+
+pub answered_writes : (c : Command) (answer : Answer) (old new : Outside) → Answered c answer old new → WritesUnder c answer.status answer.written
+answered_writes c answer old new (inl of) = is_one c answer (limited of.meant) of.is (limits c of.meant (first_too_long of.meant.written) (all_or_nothing c of.contents of.meant of.means))
+answered_writes c answer old new (inr of) = is_one c answer _ of.is refl

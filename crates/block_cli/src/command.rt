@@ -1,0 +1,70 @@
+//! What can be asked of the program.
+ghost use Rattle.std.specs.Prelude.{◌≡◌, ◌↔◌, ◌≤◌, [], ◌∷◌, All, IfOk, IsTrue, map, length};
+ghost use Rattle.edge_io.specs.Outside.{most_bytes};
+ghost use Rattle.block_cli.specs.Commands.{reads, SurelyEnds};
+ghost use Rattle.block_cli.specs.Meaning.{Means};
+ghost use Rattle.block_cli.specs.Inside.{answer_in, bytes_in, command_in};
+
+use crate::answer::Answer;
+use crate::validate::validate;
+use edge_io::Workers;
+use std::alloc::{AllocError, Global};
+
+/// A command, with what its words name.
+#[derive(Clone, Copy, Debug)]
+pub enum Command<'a> {
+    /// Judges a block on a state, and writes the next state.
+    Validate {
+        state: &'a str,
+        block: &'a str,
+        next: &'a str,
+        workers: Workers,
+    },
+}
+
+/// The first and the second of two.
+fn both(contents: Vec<Vec<u8>>) -> (Vec<u8>, Vec<u8>)
+    requires { length contents.items ≡ 2 }
+    ensures { bytes_in contents.items ≡ result.0.items ∷ result.1.items ∷ [] }
+{
+    let mut contents = contents;
+    let second = contents.pop().unwrap();
+    let first = contents.pop().unwrap();
+    (first, second)
+}
+
+impl<'a> Command<'a> {
+    /// Whether a run of it surely ends.
+    pub fn surely_ends(&self) -> bool
+        ensures { IsTrue result ↔ SurelyEnds (command_in self.now) }
+    {
+        match self {
+            Command::Validate { .. } => true,
+        }
+    }
+
+    /// The names of the files that it reads, in the order in which it reads them.
+    pub fn reads(&self, alloc: Global) -> Result<Vec<&'a str>, AllocError>
+        ensures { IfOk result (λ names.
+            map (λ name. name.now) names.items ≡ reads (command_in self.now)) }
+    {
+        match self {
+            Command::Validate { state, block, .. } => Vec::from_slice(alloc, &[*state, *block]),
+        }
+    }
+
+    /// The answer to the contents of these files.
+    pub fn answer(&self, alloc: Global, contents: Vec<Vec<u8>>) -> Result<Answer<'a>, AllocError>
+        requires all { length contents.items ≡ length (reads (command_in self.now)) }
+        requires short { All (λ bytes. length bytes ≤ most_bytes) (bytes_in contents.items) }
+        ensures { IfOk result (λ answer.
+            Means (command_in self.now) (bytes_in contents.items) (answer_in answer)) }
+    {
+        match self {
+            Command::Validate { state, next, .. } => {
+                let (spelt, block) = both(contents);
+                validate(alloc, state, next, spelt, &block)
+            }
+        }
+    }
+}

@@ -1,0 +1,55 @@
+//! Reading the files of a command.
+ghost use Rattle.std.specs.Prelude.{◌≡◌, map};
+ghost use Rattle.edge_io.specs.Outside.{GoesOn};
+ghost use Rattle.block_cli.specs.Inside.{ReadsAll};
+ghost use Rattle.block_cli.specs.declared.input.Stop.TheVariants.{NoMemory as no_memory};
+
+use edge_io::{Files, ReadEnd};
+use std::alloc::{AllocError, AllocFailed, Global};
+
+/// Why not all files were read whole, with the name of the first that wasn't.
+#[derive(Clone, Copy, Debug)]
+pub enum Stop<'a> {
+    NoMemory,
+    CannotRead(&'a str),
+    TooLong(&'a str),
+}
+
+impl<'a> From<AllocError> for Stop<'a> {
+    ghost from_gives = { λ _ e. e ≡ no_memory };
+
+    fn from(_e: AllocError) -> Stop<'a> {
+        Stop::NoMemory
+    }
+}
+
+impl<'a, T: Drop> From<AllocFailed<T>> for Stop<'a> {
+    ghost from_gives = { λ _ e. e ≡ no_memory };
+
+    fn from(_e: AllocFailed<T>) -> Stop<'a> {
+        Stop::NoMemory
+    }
+}
+
+/// Reads files in their order.
+pub fn read_all<'a, F: Files>(
+    alloc: Global,
+    names: &[&'a str],
+    files: &mut F,
+) -> Result<Vec<Vec<u8>>, Stop<'a>>
+    ensures goes { GoesOn (F.seen files.old) (F.seen files.new) }
+    ensures same { (F.seen files.new).told ≡ (F.seen files.old).told }
+    ensures read { ReadsAll (map (λ name. name.now) names.now)
+        (F.seen files.old) result (F.seen files.new) }
+{
+    let mut contents = Vec::new(alloc);
+    for name in names {
+        match files.read(alloc, name) {
+            Ok(bytes) => contents.push(bytes)?,
+            Err(ReadEnd::NoMemory) => return Err(Stop::NoMemory),
+            Err(ReadEnd::Failed) => return Err(Stop::CannotRead(name)),
+            Err(ReadEnd::TooLong) => return Err(Stop::TooLong(name)),
+        }
+    }
+    Ok(contents)
+}

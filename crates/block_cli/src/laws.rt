@@ -1,0 +1,53 @@
+//! What is true of the definitions.
+ghost use Rattle.block_cli.specs.Numbers.{NumbersHaveOneSpelling};
+ghost use Rattle.block_cli.specs.Meaning.{AnswersWriteAllOrNothing, ContentsHaveAnAnswer};
+ghost use Rattle.block_cli.specs.Verdict.{AcceptedBlocksLeaveLedgers, AcceptedBytesAreTrueBlocks, HaveAVerdict, HaveOneVerdict};
+
+use block_codec::blocks_have_one_spelling;
+use ledger_state::ledgers_have_one_spelling;
+use plain_transfers::supply_is_kept;
+
+/// A number is spelt as a word in one way.
+pub fn numbers_have_one_spelling()
+    ensures { NumbersHaveOneSpelling }
+{}
+
+/// An answer writes each file of its command, or none.
+pub fn answers_write_all_or_nothing()
+    ensures { AnswersWriteAllOrNothing }
+{}
+
+/// A state and bytes have one verdict.
+pub fn verdict_is_one()
+    ensures { HaveOneVerdict }
+{}
+
+/// A state and bytes have a verdict.
+pub fn verdict_is_there()
+    ensures { HaveAVerdict }
+{
+    blocks_have_one_spelling();
+}
+
+/// Every command has an answer to the contents of all its files.
+pub fn contents_have_an_answer()
+    ensures { ContentsHaveAnAnswer }
+{
+    blocks_have_one_spelling();
+}
+
+/// Bytes are accepted exactly where they spell a block that is published as it is run.
+pub fn accepted_bytes_are_true_blocks()
+    ensures { AcceptedBytesAreTrueBlocks }
+{
+    blocks_have_one_spelling();
+}
+
+/// An accepted block leaves a ledger with the old supply, which is read again from its file.
+pub fn accepted_blocks_leave_ledgers()
+    ensures { AcceptedBlocksLeaveLedgers }
+{
+    blocks_have_one_spelling();
+    ledgers_have_one_spelling();
+    supply_is_kept();
+}
