@@ -10,7 +10,7 @@ use Rattle.std.proofs.lemmas.List.Folds.{find-append}
 use Rattle.std.proofs.lemmas.Bool.{lt-ltb, le-ltb}
 use Rattle.std.proofs.lemmas.List.Elements.{All-append}
 use Rattle.std.proofs.Math.Seq.{drop-cons}
-use Rattle.edge_io.specs.Outside.{Held, Outside, Rose, GoesOn, HasRoom, Reads, MakesRoom, Writes, most_bytes}
+use Rattle.edge_io.specs.Outside.{Held, Outside, Rose, GoesOn, HasRoom, ReadsFile, MakesRoom, WritesFile, most_bytes}
 use Rattle.edge_io.specs.declared.files.ReadEnd.{ReadEnd}
 use Rattle.edge_io.specs.declared.files.ReadEnd.TheVariants as ends
 use Rattle.edge_io.specs.declared.files.Failed.{Failed}
@@ -90,7 +90,7 @@ told_more (Some held) before contents name bytes so_far here =
 
 module _ (before : List Name) (contents : List (List ℕ)) (name : Name) (old mid new : Outside) (read : AreRead before contents old) (goes : GoesOn old mid) (same : mid.told ≡ old.told) where
   -- one more file is read whole
-  pub read_more : (v : Vec ℕ) → Reads mid name (Ok v) new → AreRead (before ++ name ∷ []) (contents ++ v.items ∷ []) old
+  pub read_more : (v : Vec ℕ) → ReadsFile mid name (Ok v) new → AreRead (before ++ name ∷ []) (contents ++ v.items ∷ []) old
   read_more v r = record {
     count = let n = read.count in omega (arith, length-append contents (v.items ∷ []), length-append before (name ∷ []));
     short = All-append (λ (bytes : List ℕ). length bytes ≤ most_bytes) contents (v.items ∷ []) read.short (all_one (λ (bytes : List ℕ). length bytes ≤ most_bytes) v.items r.short);
@@ -101,10 +101,10 @@ module _ (before : List Name) (contents : List (List ℕ)) (name : Name) (old mi
     reaches : Reaches names name old
     reaches = record { before = before; after = after; order = order; contents = contents; read = read }
 
-    pub stops_at_fault : Reads mid name (Err ends.Failed) new → StopsAtFault names name old new
+    pub stops_at_fault : ReadsFile mid name (Err ends.Failed) new → StopsAtFault names name old new
     stops_at_fault r = record { reached = reaches; rose = earlier (old.read_faults name) (mid.read_faults name) (new.read_faults name) (goes.reads name) (r.failed refl) }
 
-    pub stops_at_long : Reads mid name (Err ends.TooLong) new → StopsAtLong names name old new
+    pub stops_at_long : ReadsFile mid name (Err ends.TooLong) new → StopsAtLong names name old new
     stops_at_long r = record {
       reached = reaches;
       long = subst (λ (told : Option Held). IfSome told (λ held. IsSomeAnd (get held name) (λ bytes. most_bytes < length bytes))) same (r.longer refl);
@@ -117,7 +117,7 @@ module _ {A : Type 0} (items : List A) (f : A → Name) (i : ℕ) (d : A) (lt : 
   here : f (get_or items i d) ≡ get_or (map f items) i (f (get_or items i d))
   here = seen_at f items i (get_or items i d) lt (sym (get_or_default items i (get_or items i d) d lt))
 
-  pub read_step : (v : Vec ℕ) (more : List (Vec ℕ)) → more ≡ contents ++ v ∷ [] → Reads mid (f (get_or items i d)) (Ok v) new → AreRead (take (i + 1) (map f items)) (bytes_in more) old
+  pub read_step : (v : Vec ℕ) (more : List (Vec ℕ)) → more ≡ contents ++ v ∷ [] → ReadsFile mid (f (get_or items i d)) (Ok v) new → AreRead (take (i + 1) (map f items)) (bytes_in more) old
   read_step v more is r =
       let name = f (get_or items i d) in
       let names : take (i + 1) (map f items) ≡ take i (map f items) ++ name ∷ [] = one_more (map f items) i name (seen_within f items i lt) here in
@@ -128,15 +128,15 @@ module _ {A : Type 0} (items : List A) (f : A → Name) (i : ℕ) (d : A) (lt : 
   order : map f items ≡ take i (map f items) ++ f (get_or items i d) ∷ drop (suc i) (map f items)
   order = split_at (map f items) i (f (get_or items i d)) (seen_within f items i lt) here
 
-  pub fault_step : (e : ReadEnd) → e ≡ ends.Failed → Reads mid (f (get_or items i d)) (Err e) new → StopsAtFault (map f items) (f (get_or items i d)) old new
+  pub fault_step : (e : ReadEnd) → e ≡ ends.Failed → ReadsFile mid (f (get_or items i d)) (Err e) new → StopsAtFault (map f items) (f (get_or items i d)) old new
   fault_step e is r =
       let name = f (get_or items i d) in
-      stops_at_fault (take i (map f items)) (bytes_in contents) name old mid new read goes same (map f items) (drop (suc i) (map f items)) order (subst (λ (x : ReadEnd). Reads mid name (Err x) new) is r)
+      stops_at_fault (take i (map f items)) (bytes_in contents) name old mid new read goes same (map f items) (drop (suc i) (map f items)) order (subst (λ (x : ReadEnd). ReadsFile mid name (Err x) new) is r)
 
-  pub long_step : (e : ReadEnd) → e ≡ ends.TooLong → Reads mid (f (get_or items i d)) (Err e) new → StopsAtLong (map f items) (f (get_or items i d)) old new
+  pub long_step : (e : ReadEnd) → e ≡ ends.TooLong → ReadsFile mid (f (get_or items i d)) (Err e) new → StopsAtLong (map f items) (f (get_or items i d)) old new
   long_step e is r =
       let name = f (get_or items i d) in
-      stops_at_long (take i (map f items)) (bytes_in contents) name old mid new read goes same (map f items) (drop (suc i) (map f items)) order (subst (λ (x : ReadEnd). Reads mid name (Err x) new) is r)
+      stops_at_long (take i (map f items)) (bytes_in contents) name old mid new read goes same (map f items) (drop (suc i) (map f items)) order (subst (λ (x : ReadEnd). ReadsFile mid name (Err x) new) is r)
 
 -- ---- room
 
@@ -167,7 +167,7 @@ after_one_more (Some held) mid new before file so_far now_is =
     let now : new ≡ Some (insert (held_after held before) file.0 file.1) = subst (λ (o : Option Held). IfSome o (λ h. new ≡ Some (insert h file.0 file.1))) so_far now_is in
     now ∙ ap (λ (h : Held). Some h) (sym (held_after-push held before file))
 
-pub written_more : (before : List File) (file : File) (old mid new : Outside) → Written before old mid → Writes mid file.0 file.1 (Ok tt) new → Written (before ++ file ∷ []) old new
+pub written_more : (before : List File) (file : File) (old mid new : Outside) → Written before old mid → WritesFile mid file.0 file.1 (Ok tt) new → Written (before ++ file ∷ []) old new
 written_more before file old mid new so_far w = after_one_more old.told mid.told new.told before file so_far w.written
 
 others_by : (new : Option Held) (held : Held) (name : Name) → is_some new ≡ true → IfSome new (λ now. (q : Name) → q ≢ name → get now q ≡ get held q) → IsSomeAnd new (λ now. (q : Name) → q ≢ name → get now q ≡ get held q)
@@ -181,7 +181,7 @@ others_after (Some held) mid new before name so_far tells others =
     others_by new (held_after held before) name (tells ∙ ap is_some so_far)
     (subst (λ (o : Option Held). IfSome o (λ h. IfSome new (λ now. (q : Name) → q ≢ name → get now q ≡ get h q))) so_far others)
 
-pub stops_writing : (before after files : List File) (file : File) (old mid new : Outside) (e : Failed) → files ≡ before ++ file ∷ after → GoesOn old mid → Written before old mid → Writes mid file.0 file.1 (Err e) new → StopsWriting files file.0 old new
+pub stops_writing : (before after files : List File) (file : File) (old mid new : Outside) (e : Failed) → files ≡ before ++ file ∷ after → GoesOn old mid → Written before old mid → WritesFile mid file.0 file.1 (Err e) new → StopsWriting files file.0 old new
 stops_writing before after files file old mid new e order goes so_far w = record {
   before = before;
   bytes = file.1;
@@ -220,14 +220,14 @@ module _ (items : List Made) (i : ℕ) (x : Made) (lt : i < length items) (is : 
       (subst (λ (f : File). HasRoom old f.0 (length f.1)) (sym stands) (room i (file_in x) within)))
 
   module _ (bytes : List ℕ) (same : bytes ≡ x.bytes.items) (old mid new : Outside) (goes : GoesOn old mid) (so_far : Written (take i (files_in items)) old mid) where
-    pub stop_step : (r : Result Unit Failed) → is_err r ≡ true → Writes mid x.name.now bytes r new → StopsWriting (files_in items) x.name.now old new
+    pub stop_step : (r : Result Unit Failed) → is_err r ≡ true → WritesFile mid x.name.now bytes r new → StopsWriting (files_in items) x.name.now old new
     stop_step (Ok u) failed w = absurd cc
     stop_step (Err e) failed w =
         stops_writing (take i (files_in items)) (drop (suc i) (files_in items)) (files_in items) (file_in x) old mid new e (split_at (files_in items) i (file_in x) within stands) goes so_far
-        (subst (λ (b : List ℕ). Writes mid x.name.now b (Err e) new) same w)
+        (subst (λ (b : List ℕ). WritesFile mid x.name.now b (Err e) new) same w)
 
-    pub write_step : (r : Result Unit Failed) → is_err r ≡ false → Writes mid x.name.now bytes r new → Written (take (i + 1) (files_in items)) old new
+    pub write_step : (r : Result Unit Failed) → is_err r ≡ false → WritesFile mid x.name.now bytes r new → Written (take (i + 1) (files_in items)) old new
     write_step (Err e) written w = absurd cc
     write_step (Ok u) written w =
         subst (λ (fs : List File). Written fs old new) (sym next)
-        (written_more (take i (files_in items)) (file_in x) old mid new so_far (subst (λ (b : List ℕ). Writes mid x.name.now b (Ok tt) new) same w))
+        (written_more (take i (files_in items)) (file_in x) old mid new so_far (subst (λ (b : List ℕ). WritesFile mid x.name.now b (Ok tt) new) same w))

@@ -1,7 +1,7 @@
 -- What functions inside promise each other of commands, files and the sink.
 use Rattle.std.specs.Prelude.{◌≡◌, ℕ, Bool, ◌&&◌, ◌||◌, ◌==◌, nat_lt, slice_index, List, [], length, map, All, Option, Some, None, Result, Ok, Err, OnOk, OnErr, ◌⊎◌}
 use Rattle.std.specs.Global.{Vec}
-use Rattle.edge_io.specs.Outside.{Outside, Rose, HasRoom, Taken, Takes}
+use Rattle.edge_io.specs.Outside.{Outside, Rose, HasRoom, Taken, TakesFirst}
 use Rattle.block_cli.specs.declared.command.Command.{Command as Asked}
 use Rattle.block_cli.specs.declared.command.Command.TheVariants as asked
 use Rattle.block_cli.specs.declared.answer.File.{File as Made}
@@ -67,7 +67,7 @@ WritesAll files old (Some name) new = StopsWriting files name old new
 -- so much of a text was printed
 pub record PrintsOn {E : Type 0} (old : Taken) (text : List ℕ) (result : Result Unit E) (new : Taken) : Type 0 where
   pub count : ℕ
-  pub takes : Takes old text count new
+  pub takes : TakesFirst old text count new
   pub ok : OnOk result (count ≡ length text)
   pub err : OnErr result (Rose old.faults new.faults)
 

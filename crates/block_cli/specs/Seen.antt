@@ -1,7 +1,7 @@
 -- What is seen of the files and of the sink, and what a run leaves of them.
 use Rattle.std.specs.Prelude.{◌≡◌, ◌≢◌, ℕ, List, ◌∷◌, ◌++◌, length, Some, IfSome, IsSomeAnd, ◌⊎◌}
 use Rattle.std.specs.FinMap.{get}
-use Rattle.edge_io.specs.Outside.{Outside, Rose, Taken, Takes}
+use Rattle.edge_io.specs.Outside.{Outside, Rose, Taken, TakesFirst}
 use Rattle.block_cli.specs.Commands.{Name}
 use Rattle.block_cli.specs.Answers.{File, held_after}
 
@@ -34,9 +34,9 @@ pub record StopsWriting (files : List File) (name : Name) (old new : Outside) : 
 -- a beginning of the text was taken: all of it, unless the sink's count rose
 pub record Prints (old : Taken) (text : List ℕ) (new : Taken) : Type 0 where
   pub count : ℕ
-  pub takes : Takes old text count new
+  pub takes : TakesFirst old text count new
   pub whole : (count ≡ length text) ⊎ Rose old.faults new.faults
 
 -- all of the text was taken
 abbrev pub PrintsAll : Taken → List ℕ → Taken → Type 0
-PrintsAll old text new = Takes old text (length text) new
+PrintsAll old text new = TakesFirst old text (length text) new

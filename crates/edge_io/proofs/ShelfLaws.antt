@@ -5,7 +5,7 @@ use Rattle.std.specs.Option.{option_map, unwrap_or}
 use Rattle.std.specs.Str.{bytes_eq}
 use Rattle.std.specs.Global.{Vec}
 use Rattle.std.specs.FinMap.{get, insert}
-use Rattle.edge_io.specs.Outside.{Held, HasRoom, GoesOn, SameCounts, Reads, MakesRoom, Writes, most_bytes}
+use Rattle.edge_io.specs.Outside.{Held, HasRoom, GoesOn, SameCounts, ReadsFile, MakesRoom, WritesFile, most_bytes}
 use Rattle.edge_io.specs.Shelf.{Marks, Marked, no_marks, marks_at, seen_as, marks_read, marks_unwritten, roomy, marked_read, marked_roomy, marked_written, held_written}
 use Rattle.edge_io.proofs.SlotMaps.{same_bytes, bytes_eq-itself, get-put}
 use Rattle.edge_io.specs.declared.files.Failed.{Failed}
@@ -60,7 +60,7 @@ module _ (marked : Marked) (name : List ℕ) (m : Marks) where
 
 -- ---- a read
 
-pub read_reads : (held : Held) (marked : Marked) (name : List ℕ) (r : Result (Vec ℕ) ReadEnd) → IfOk r (λ v. length v.items ≤ most_bytes) → IfOk r (λ v. get held name ≡ Some v.items) → (IsErrOf r ends.TooLong → IsSomeAnd (get held name) (λ b. most_bytes < length b)) → Reads (seen_as held marked) name r (seen_as held (marked_read marked name r))
+pub read_reads : (held : Held) (marked : Marked) (name : List ℕ) (r : Result (Vec ℕ) ReadEnd) → IfOk r (λ v. length v.items ≤ most_bytes) → IfOk r (λ v. get held name ≡ Some v.items) → (IsErrOf r ends.TooLong → IsSomeAnd (get held name) (λ b. most_bytes < length b)) → ReadsFile (seen_as held marked) name r (seen_as held (marked_read marked name r))
 read_reads held marked name (Ok v) short bytes long = record {
   goes = goes_itself held held marked;
   same = refl;
@@ -144,7 +144,7 @@ put_others held held' marked marked' name n (Err e) made same q apart = rw same 
 
 -- ---- a write
 
-pub write_writes : (held : Held) (marked : Marked) (name bytes : List ℕ) (r : Result Unit Failed) → Writes (seen_as held marked) name bytes r (seen_as (held_written held name bytes r) (marked_written marked name r))
+pub write_writes : (held : Held) (marked : Marked) (name bytes : List ℕ) (r : Result Unit Failed) → WritesFile (seen_as held marked) name bytes r (seen_as (held_written held name bytes r) (marked_written marked name r))
 write_writes held marked name bytes (Ok u) = record { goes = goes_itself held (insert held name bytes) marked; written = refl; others = tt; failed = tt }
 write_writes held marked name bytes (Err e) =
     let m : Marks = marks_unwritten (marks_at marked name) in

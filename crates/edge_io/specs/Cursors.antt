@@ -15,6 +15,6 @@ abbrev pub moved : ℕ → Reach → Reach
 moved n c = record { bytes = c.bytes; at = c.at + n }
 
 -- the next n bytes, seen by view, are taken; where fewer are left none is, and nothing moves
-abbrev pub Takes : {A : Type 0} → ℕ → (List ℕ → A) → Reach → Option A → Reach → Type 0
-Takes n view old None new = (length (left old) < n) × (new ≡ old)
-Takes n view old (Some a) new = (n ≤ length (left old)) × (a ≡ view (take n (left old))) × (new ≡ moved n old)
+abbrev pub TakesFront : {A : Type 0} → ℕ → (List ℕ → A) → Reach → Option A → Reach → Type 0
+TakesFront n view old None new = (length (left old) < n) × (new ≡ old)
+TakesFront n view old (Some a) new = (n ≤ length (left old)) × (a ≡ view (take n (left old))) × (new ≡ moved n old)

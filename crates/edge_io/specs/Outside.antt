@@ -48,8 +48,12 @@ pub record GoesOn (old new : Outside) : Type 0 where
 abbrev pub SameCounts : Outside → Outside → List ℕ → Type 0
 SameCounts old new q = (new.read_faults q ≡ old.read_faults q) × (new.write_faults q ≡ old.write_faults q) × (new.long_reads q ≡ old.long_reads q)
 
+-- all other names have the counts that they had
+abbrev pub SameOthers : Outside → Outside → List ℕ → Type 0
+SameOthers old new name = (q : List ℕ) → q ≢ name → SameCounts old new q
+
 -- a read: the told bytes of at most 64 MiB, or a fault that its own count tells; contents stay
-pub record Reads (old : Outside) (name : List ℕ) (result : Result (Vec ℕ) ReadEnd) (new : Outside) : Type 0 where
+pub record ReadsFile (old : Outside) (name : List ℕ) (result : Result (Vec ℕ) ReadEnd) (new : Outside) : Type 0 where
   pub goes : GoesOn old new
   pub same : new.told ≡ old.told
   pub short : IfOk result (λ v. length v.items ≤ most_bytes)
@@ -68,7 +72,7 @@ pub record MakesRoom {E : Type 0} (old : Outside) (name : List ℕ) (n : ℕ) (r
   pub gave_up : OnErr result (new ≡ old)
 
 -- a write: the bytes are the whole content, or a fault that its count tells; other contents stay
-pub record Writes (old : Outside) (name bytes : List ℕ) (result : Result Unit Failed) (new : Outside) : Type 0 where
+pub record WritesFile (old : Outside) (name bytes : List ℕ) (result : Result Unit Failed) (new : Outside) : Type 0 where
   pub goes : GoesOn old new
   pub written : OnOk result (IfSome old.told (λ held. new.told ≡ Some (insert held name bytes)))
   pub others : OnErr result (IfSome old.told (λ held. IfSome new.told (λ now. (q : List ℕ) → q ≢ name → get now q ≡ get held q)))
@@ -80,7 +84,7 @@ pub record Taken : Type 0 where
   pub faults : ℕ
 
 -- so many first bytes of a text were taken, and nothing else
-pub record Takes (old : Taken) (text : List ℕ) (n : ℕ) (new : Taken) : Type 0 where
+pub record TakesFirst (old : Taken) (text : List ℕ) (n : ℕ) (new : Taken) : Type 0 where
   pub later : old.faults ≤ new.faults
   pub tells : is_some new.bytes ≡ is_some old.bytes
   pub within : n ≤ length text
@@ -88,6 +92,6 @@ pub record Takes (old : Taken) (text : List ℕ) (n : ℕ) (new : Taken) : Type 
 
 -- a piece is offered: at least one byte of it is taken, or nothing is and the count of faults rose
 pub record TakesPiece (old : Taken) (piece : List ℕ) (result : Result ℕ Failed) (new : Taken) : Type 0 where
-  pub ok : IfOk result (λ n. (0 < n) × Takes old piece n new)
-  pub err : OnErr result (Takes old piece 0 new)
+  pub ok : IfOk result (λ n. (0 < n) × TakesFirst old piece n new)
+  pub err : OnErr result (TakesFirst old piece 0 new)
   pub failed : OnErr result (Rose old.faults new.faults)

@@ -3,7 +3,7 @@
 ghost use Rattle.std.specs.Prelude.{◌≡◌};
 ghost use Rattle.std.specs.Int.{w8, w32, w64, from_be_bytes};
 ghost use Rattle.std.specs.Option.{option_map};
-ghost use Rattle.edge_io.specs.Cursors.{Takes};
+ghost use Rattle.edge_io.specs.Cursors.{TakesFront};
 
 use std::marker::Model;
 
@@ -43,7 +43,7 @@ impl<'a> Cursor<'a> {
 
     /// The next byte.
     pub fn take_u8(&mut self) -> Option<u8>
-        ensures { Takes 1 (from_be_bytes w8) self.old result self.new }
+        ensures { TakesFront 1 (from_be_bytes w8) self.old result self.new }
     {
         let front = self.take_bytes(1)?;
         Some(front[0])
@@ -51,7 +51,7 @@ impl<'a> Cursor<'a> {
 
     /// A number of four bytes, the highest first.
     pub fn take_u32(&mut self) -> Option<u32>
-        ensures { Takes 4 (from_be_bytes w32) self.old result self.new }
+        ensures { TakesFront 4 (from_be_bytes w32) self.old result self.new }
     {
         let front = self.take_bytes(4)?;
         let mut number = [0; 4];
@@ -61,7 +61,7 @@ impl<'a> Cursor<'a> {
 
     /// A number of eight bytes, the highest first.
     pub fn take_u64(&mut self) -> Option<u64>
-        ensures { Takes 8 (from_be_bytes w64) self.old result self.new }
+        ensures { TakesFront 8 (from_be_bytes w64) self.old result self.new }
     {
         let front = self.take_bytes(8)?;
         let mut number = [0; 8];
@@ -71,7 +71,7 @@ impl<'a> Cursor<'a> {
 
     /// The next n bytes.
     pub fn take_bytes(&mut self, n: usize) -> Option<&'a [u8]>
-        ensures { Takes n (λ b. b) self.old (option_map (λ b. b.now) result) self.new }
+        ensures { TakesFront n (λ b. b) self.old (option_map (λ b. b.now) result) self.new }
     {
         let (_, rest) = self.bytes.split_at(self.at);
         if rest.len() < n {

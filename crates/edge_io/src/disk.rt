@@ -1,14 +1,13 @@
 //! The files of the disk, which tell no contents.
-ghost use Rattle.std.specs.Prelude.{◌≡◌, ◌≢◌, ◌<◌, ◌≤◌, ℕ, List, Option, false, IfOk, IfSome, IsOk, IsErrOf, OnOk, length, vec_len};
-ghost use Rattle.std.specs.Io.KnownBytes.{Consumes, IsAtEnd};
-ghost use Rattle.edge_io.specs.Outside.{most_bytes, HasRoom, Reads, MakesRoom, Writes};
+ghost use Rattle.std.specs.Prelude.{◌≡◌, ◌<◌, ◌≤◌, IfOk, IfSome, IsOk, IsErrOf, length, vec_len};
+ghost use Rattle.edge_io.specs.Outside.{most_bytes, Rose, HasRoom, ReadsFile, MakesRoom, WritesFile};
 ghost use Rattle.edge_io.specs.Adapters.{outside_of, after_read, after_write};
-ghost use Rattle.edge_io.specs.declared.files.ReadEnd.TheVariants.{TooLong as too_long};
+ghost use Rattle.edge_io.specs.declared.files.ReadEnd.TheVariants.{Failed as failed, TooLong as too_long};
 
 use crate::files::{Failed, Files, MOST_BYTES, NoMemory, ReadEnd};
+use crate::pieces::{Pieces, Source};
 use std::alloc::Global;
 use std::fs;
-use std::io::{ErrorKind, Read};
 use std::marker::Model;
 use std::rt::Files as SystemFiles;
 
@@ -29,7 +28,11 @@ impl<'a, R: SystemFiles> Model for DiskFiles<'a, R> {
 
     ghost Value = { DiskCounts };
 
-    ghost view = { λ s. record { read_faults = s.read_faults; write_faults = s.write_faults; long_reads = s.long_reads } };
+    ghost view = { λ s. record {
+      read_faults = s.read_faults;
+      write_faults = s.write_faults;
+      long_reads = s.long_reads;
+    } };
 }
 
 impl<'a, R: SystemFiles> DiskFiles<'a, R> {
@@ -46,24 +49,6 @@ impl<'a, R: SystemFiles> DiskFiles<'a, R> {
     }
 }
 
-/// Reads a further piece behind the bytes, and tells whether there may be more.
-fn read_piece<S: Read>(file: &mut S, piece: &mut [u8], bytes: &mut Vec<u8>) -> Result<bool, ReadEnd>
-    requires { 0 < length piece.old }
-    ensures read { OnOk result ((whole : Option (List ℕ)) → Consumes whole (S.remaining file.old) bytes.old.items → Consumes whole (S.remaining file.new) bytes.new.items) }
-    ensures end { result ≡ Ok false → IsAtEnd (S.remaining file.new) }
-    ensures never_long { result ≢ Err too_long }
-{
-    match file.read(piece) {
-        Ok(0) => Ok(false),
-        Ok(n) => {
-            bytes.extend_from_slice(&piece[..n])?;
-            Ok(true)
-        }
-        Err(e) if e.kind() == ErrorKind::Interrupted => Ok(true),
-        Err(_) => Err(ReadEnd::Failed),
-    }
-}
-
 /// Where a piece is read to.
 fn buffer(alloc: Global) -> Result<Vec<u8>, NoMemory>
     ensures { IfOk result (λ v. 0 < vec_len v) }
@@ -71,26 +56,25 @@ fn buffer(alloc: Global) -> Result<Vec<u8>, NoMemory>
     Vec::from_elem(alloc, 0u8, PIECE)
 }
 
-/// All that is left to read, in pieces.
-fn read_all<S: Read>(alloc: Global, file: &mut S) -> Result<Vec<u8>, ReadEnd>
+/// All that is left, in pieces.
+fn read_all<P: Pieces>(alloc: Global, pieces: &mut P) -> Result<Vec<u8>, ReadEnd>
     ensures short { IfOk result (λ v. length v.items ≤ most_bytes) }
-    ensures whole { IfOk result (λ v. IfSome (S.remaining file.old) (λ xs. v.items ≡ xs)) }
-    ensures long { IsErrOf result too_long → IfSome (S.remaining file.old) (λ xs. most_bytes < length xs) }
+    ensures whole { IfOk result (λ v. IfSome (P.left pieces.old) (λ xs. v.items ≡ xs)) }
+    // A fault comes only where a read ended in an error, and this end only where more is left.
+    ensures failed { IsErrOf result failed → Rose (P.errors pieces.old) (P.errors pieces.new) }
+    ensures long { IsErrOf result too_long
+        → IfSome (P.left pieces.old) (λ xs. most_bytes < length xs) }
 {
     let mut buffer = buffer(alloc)?;
-    let piece = buffer.as_mut_slice();
+    let room = buffer.as_mut_slice();
     let mut bytes = Vec::new(alloc);
     for _ in 0..u64::MAX {
-        match read_piece(file, piece, &mut bytes) {
-            Err(end) => return Err(end),
-            Ok(more) => {
-                if bytes.len() > MOST_BYTES {
-                    return Err(ReadEnd::TooLong);
-                }
-                if !more {
-                    return Ok(bytes);
-                }
-            }
+        let more = pieces.add_piece(room, &mut bytes)?;
+        if bytes.len() > MOST_BYTES {
+            return Err(ReadEnd::TooLong);
+        }
+        if !more {
+            return Ok(bytes);
         }
     }
     Err(ReadEnd::Failed)
@@ -101,7 +85,7 @@ fn read_named<R: SystemFiles>(alloc: Global, rt: &R, name: &str) -> Result<Vec<u
     ensures { IfOk result (λ v. length v.items ≤ most_bytes) }
 {
     match fs::open(rt, name) {
-        Ok(mut file) => read_all(alloc, &mut file),
+        Ok(file) => read_all(alloc, &mut Source::new(file)),
         Err(_) => Err(ReadEnd::Failed),
     }
 }
@@ -110,7 +94,7 @@ impl<'a, R: SystemFiles> Files for DiskFiles<'a, R> {
     ghost seen = { outside_of };
 
     fn read(&mut self, alloc: Global, name: &str) -> Result<Vec<u8>, ReadEnd>
-        ensures reads { Reads (outside_of self.old) name.now result (outside_of self.new) }
+        ensures reads { ReadsFile (outside_of self.old) name.now result (outside_of self.new) }
         ensures after { self.new ≡ after_read self.old result }
     {
         match read_named(alloc, self.rt, name) {
@@ -137,7 +121,8 @@ impl<'a, R: SystemFiles> Files for DiskFiles<'a, R> {
 
     fn write(&mut self, name: &str, bytes: &[u8]) -> Result<(), Failed>
         requires { HasRoom (outside_of self.old) name.now (length bytes.now) }
-        ensures writes { Writes (outside_of self.old) name.now bytes.now result (outside_of self.new) }
+        ensures writes { WritesFile (outside_of self.old) name.now bytes.now result
+            (outside_of self.new) }
         ensures after { self.new ≡ after_write self.old result }
     {
         if fs::write(self.rt, name, bytes).is_err() {

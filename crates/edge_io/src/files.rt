@@ -1,6 +1,6 @@
 //! Files by their names, as the program meets them.
 ghost use Rattle.std.specs.Prelude.{◌≡◌, length};
-ghost use Rattle.edge_io.specs.Outside.{Outside, HasRoom, Reads, MakesRoom, Writes};
+ghost use Rattle.edge_io.specs.Outside.{Outside, HasRoom, ReadsFile, MakesRoom, WritesFile};
 ghost use Rattle.edge_io.specs.declared.files.ReadEnd.TheVariants.{NoMemory as no_memory};
 
 use std::alloc::{AllocError, AllocFailed, Global};
@@ -11,18 +11,20 @@ pub type NoMemory = AllocError;
 /// The longest file that is read: 64 MiB.
 pub(crate) const MOST_BYTES: usize = 67_108_864;
 
-/// A write failed, and the count of write faults tells it.
+/// A write or a piece failed, and its count of faults tells it: a write into a folder that isn't
+/// there, a piece for an output that takes nothing more.
 #[derive(Clone, Copy, Debug, PartialEq, Eq)]
 pub struct Failed;
 
 /// Why a file wasn't read.
 #[derive(Clone, Copy, Debug, PartialEq, Eq)]
 pub enum ReadEnd {
-    /// The read failed, and the count of read faults tells it.
+    /// The read failed, and the count of read faults tells it: the name isn't there.
     Failed,
-    /// The file has more than 67,108,864 bytes, and the count of long reads tells it.
+    /// The file has more than 67,108,864 bytes, as one of 67,108,865, and the count of long reads
+    /// tells it.
     TooLong,
-    /// Memory ran out.
+    /// Memory ran out, for the bytes or for a name's counts.
     NoMemory,
 }
 
@@ -49,7 +51,7 @@ pub trait Files {
 
     /// The bytes of a file.
     fn read(&mut self, alloc: Global, name: &str) -> Result<Vec<u8>, ReadEnd>
-        ensures { Reads (seen self.old) name.now result (seen self.new) };
+        ensures { ReadsFile (seen self.old) name.now result (seen self.new) };
 
     /// Makes room for a later write of that many bytes, which then takes no memory.
     fn ready(&mut self, alloc: Global, name: &str, n: usize) -> Result<(), NoMemory>
@@ -58,5 +60,5 @@ pub trait Files {
     /// Makes the bytes the whole content of a file.
     fn write(&mut self, name: &str, bytes: &[u8]) -> Result<(), Failed>
         requires { HasRoom (seen self.old) name.now (length bytes.now) }
-        ensures { Writes (seen self.old) name.now bytes.now result (seen self.new) };
+        ensures { WritesFile (seen self.old) name.now bytes.now result (seen self.new) };
 }

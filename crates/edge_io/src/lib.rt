@@ -9,12 +9,13 @@
 //! - `sink`: the trait `Sink`, which takes printed bytes.
 //! - `gate`: the trait `Gate`, by which a test may hold a worker, and `OpenGate`.
 //! - `memory_files`, `memory_sink`: `MemFiles` and `MemSink`, which tell all and fail on demand.
-//! - `disk`, `output`: `DiskFiles` and `StdSink`, thin adapters that tell no contents.
+//! - `disk`, `output`: `DiskFiles` and `StdSink`, thin adapters that tell no contents. `pieces`: a
+//!   reader's bytes, read one piece after another.
 //! - `workers`: how many workers there are, from 1 to 64.
 //! - `cursor`: `Cursor`, which takes fields from the front of bytes.
 //! - `slot`, `slots`: one name of `MemFiles`, and the list of them. `calls`: which calls fail.
 //!
-//! The clauses are the relations of `specs/Outside.antt`: `Reads`, `MakesRoom`, `Writes` and
+//! The clauses are the relations of `specs/Outside.antt`: `ReadsFile`, `MakesRoom`, `WritesFile` and
 //! `TakesPiece`. Calls that take memory have `alloc`, and change nothing where it runs out.
 //! What files and a sink in memory do is said exactly, in `specs/Shelf.antt` and
 //! `specs/Buffer.antt`.
@@ -28,6 +29,7 @@ mod gate;
 mod memory_files;
 mod memory_sink;
 mod output;
+mod pieces;
 mod sink;
 mod slot;
 mod slots;

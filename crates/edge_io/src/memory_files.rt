@@ -1,8 +1,8 @@
 //! Files in memory, which tell their contents and fail where they are told to.
-ghost use Rattle.std.specs.Prelude.{◌≡◌, ◌≢◌, ◌∷◌, ◌++◌, [], ℕ, List, length, is_err, is_some, OnOk, OnErr};
+ghost use Rattle.std.specs.Prelude.{◌≡◌, ◌∷◌, ◌++◌, [], length, is_err, is_some, OnOk, OnErr};
 ghost use Rattle.std.specs.Option.{option_copied};
 ghost use Rattle.std.specs.FinMap as map;
-ghost use Rattle.edge_io.specs.Outside.{HasRoom, SameCounts, Reads, MakesRoom, Writes};
+ghost use Rattle.edge_io.specs.Outside.{HasRoom, SameOthers, ReadsFile, MakesRoom, WritesFile};
 ghost use Rattle.edge_io.specs.Shelf.{bare, outside_of, is_due, read_due, FailsWhere, after_read, after_ready, after_put, after_write};
 
 use crate::calls::{is_due, reads_after};
@@ -59,7 +59,7 @@ impl MemFiles {
         ensures put { OnOk result (self.new ≡ after_put self.old name.now bytes.now) }
         ensures room { OnOk result (HasRoom (outside_of self.new) name.now (length bytes.now)) }
         ensures unchanged { OnErr result (self.new ≡ self.old) }
-        ensures others { (q : List ℕ) → q ≢ name.now → SameCounts (outside_of self.old) (outside_of self.new) q }
+        ensures others { SameOthers (outside_of self.old) (outside_of self.new) name.now }
     {
         slots::put(&mut self.slots, alloc, name, bytes)
     }
@@ -73,7 +73,8 @@ impl MemFiles {
 
     /// Lets the k-th read fail, counted from 0.
     pub fn fail_read(&mut self, alloc: Global, k: u32) -> Result<(), NoMemory>
-        ensures noted { OnOk result (self.new ≡ record self.old { failing_reads = self.old.failing_reads ++ k ∷ [] }) }
+        ensures noted { OnOk result (self.new
+            ≡ record self.old { failing_reads = self.old.failing_reads ++ k ∷ [] }) }
         ensures unchanged { OnErr result (self.new ≡ self.old) }
     {
         self.failing_reads.push(k)?;
@@ -82,7 +83,8 @@ impl MemFiles {
 
     /// Lets the k-th write fail, counted from 0.
     pub fn fail_write(&mut self, alloc: Global, k: u32) -> Result<(), NoMemory>
-        ensures noted { OnOk result (self.new ≡ record self.old { failing_writes = self.old.failing_writes ++ k ∷ [] }) }
+        ensures noted { OnOk result (self.new
+            ≡ record self.old { failing_writes = self.old.failing_writes ++ k ∷ [] }) }
         ensures unchanged { OnErr result (self.new ≡ self.old) }
     {
         self.failing_writes.push(k)?;
@@ -94,10 +96,11 @@ impl Files for MemFiles {
     ghost seen = { outside_of };
 
     fn read(&mut self, alloc: Global, name: &str) -> Result<Vec<u8>, ReadEnd>
-        ensures reads { Reads (outside_of self.old) name.now result (outside_of self.new) }
-        ensures fails { FailsWhere (read_due self.old name.now) (is_some (map.get self.old.marked name.now)) result }
+        ensures reads { ReadsFile (outside_of self.old) name.now result (outside_of self.new) }
+        ensures fails { FailsWhere (read_due self.old name.now)
+            (is_some (map.get self.old.marked name.now)) result }
         ensures after { self.new ≡ after_read self.old name.now result }
-        ensures others { (q : List ℕ) → q ≢ name.now → SameCounts (outside_of self.old) (outside_of self.new) q }
+        ensures others { SameOthers (outside_of self.old) (outside_of self.new) name.now }
     {
         let fails = is_due(&self.failing_reads, self.reads);
         let ended = slots::read(&mut self.slots, alloc, name, fails);
@@ -115,10 +118,11 @@ impl Files for MemFiles {
 
     fn write(&mut self, name: &str, bytes: &[u8]) -> Result<(), Failed>
         requires { HasRoom (outside_of self.old) name.now (length bytes.now) }
-        ensures writes { Writes (outside_of self.old) name.now bytes.now result (outside_of self.new) }
+        ensures writes { WritesFile (outside_of self.old) name.now bytes.now result
+            (outside_of self.new) }
         ensures fails { is_err result ≡ is_due self.old.failing_writes self.old.writes }
         ensures after { self.new ≡ after_write self.old name.now bytes.now result }
-        ensures others { (q : List ℕ) → q ≢ name.now → SameCounts (outside_of self.old) (outside_of self.new) q }
+        ensures others { SameOthers (outside_of self.old) (outside_of self.new) name.now }
     {
         let fails = is_due(&self.failing_writes, self.writes);
         self.writes = self.writes.saturating_add(1);

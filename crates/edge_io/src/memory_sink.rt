@@ -64,7 +64,8 @@ impl MemSink {
 
     /// Lets the k-th write fail, counted from 0.
     pub fn fail_at(&mut self, alloc: Global, k: u32) -> Result<(), NoMemory>
-        ensures noted { OnOk result (self.new ≡ record self.old { failing = self.old.failing ++ k ∷ [] }) }
+        ensures noted { OnOk result (self.new
+            ≡ record self.old { failing = self.old.failing ++ k ∷ [] }) }
         ensures unchanged { OnErr result (self.new ≡ self.old) }
     {
         self.failing.push(k)?;

@@ -25,14 +25,19 @@ pub struct Slot {
 impl Model for Slot {
     ghost use Rattle.std.specs.Prelude.{◌≤◌, if◌then◌else◌, Some, None, string_bytes};
     ghost use Rattle.std.specs.Vec.{vec_capacity};
-    ghost use Rattle.edge_io.specs.Slots.{Entry};
+    ghost use Rattle.edge_io.specs.Slots.{SlotView};
 
-    ghost Value = { Entry };
+    ghost Value = { SlotView };
 
     ghost view = { λ s. record {
       name = string_bytes s.name;
       file = (if s.there then Some s.bytes.items else None);
-      marks = record { room = s.room; read_faults = s.read_faults; write_faults = s.write_faults; long_reads = s.long_reads };
+      marks = record {
+        room = s.room;
+        read_faults = s.read_faults;
+        write_faults = s.write_faults;
+        long_reads = s.long_reads;
+      };
     } };
 
     // the memory of a room was taken when the room was made
@@ -71,7 +76,8 @@ impl Slot {
 
     /// Counts a read that failed.
     pub fn note_read_fault(&mut self)
-        ensures { self.new ≡ record self.old { marks = marks_read self.old.marks (Err read_failed) } }
+        ensures { self.new
+            ≡ record self.old { marks = marks_read self.old.marks (Err read_failed) } }
     {
         self.read_faults = self.read_faults.saturating_add(1);
     }
@@ -81,7 +87,8 @@ impl Slot {
         ensures fails { FailsWhere (fails || is_none self.old.file) true result }
         ensures short { IfOk result (λ v. length v.items ≤ most_bytes) }
         ensures bytes { IfOk result (λ v. self.old.file ≡ Some v.items) }
-        ensures long { IsErrOf result too_long → IsSomeAnd self.old.file (λ b. most_bytes < length b) }
+        ensures long { IsErrOf result too_long
+            → IsSomeAnd self.old.file (λ b. most_bytes < length b) }
         ensures then { self.new ≡ record self.old { marks = marks_read self.old.marks result } }
     {
         if fails || !self.there {

@@ -59,9 +59,11 @@ pub fn read(
         (is_some (map.get (marked_of slots.old.items) name.now)) result }
     ensures short { IfOk result (λ v. length v.items ≤ most_bytes) }
     ensures bytes { IfOk result (λ v. map.get (held_of slots.old.items) name.now ≡ Some v.items) }
-    ensures long { IsErrOf result too_long → IsSomeAnd (map.get (held_of slots.old.items) name.now) (λ b. most_bytes < length b) }
+    ensures long { IsErrOf result too_long
+        → IsSomeAnd (map.get (held_of slots.old.items) name.now) (λ b. most_bytes < length b) }
     ensures held { held_of slots.new.items ≡ held_of slots.old.items }
-    ensures marked { marked_of slots.new.items ≡ marked_read (marked_of slots.old.items) name.now result }
+    ensures marked { marked_of slots.new.items
+        ≡ marked_read (marked_of slots.old.items) name.now result }
 {
     match place_of(slots, name) {
         Some(i) => {
@@ -80,7 +82,8 @@ pub fn read(
 /// Makes room under a name.
 pub fn ready(slots: &mut Vec<Slot>, alloc: Global, name: &str, n: usize) -> Result<(), NoMemory>
     ensures held { held_of slots.new.items ≡ held_of slots.old.items }
-    ensures made { OnOk result (marked_of slots.new.items ≡ marked_roomy (marked_of slots.old.items) name.now n) }
+    ensures made { OnOk result (marked_of slots.new.items
+        ≡ marked_roomy (marked_of slots.old.items) name.now n) }
     ensures unchanged { OnErr result (marked_of slots.new.items ≡ marked_of slots.old.items) }
 {
     match place_of(slots, name) {
@@ -99,8 +102,10 @@ pub fn ready(slots: &mut Vec<Slot>, alloc: Global, name: &str, n: usize) -> Resu
 
 /// Makes the bytes the file of a name, and room for as many.
 pub fn put(slots: &mut Vec<Slot>, alloc: Global, name: &str, bytes: &[u8]) -> Result<(), NoMemory>
-    ensures held { OnOk result (held_of slots.new.items ≡ map.insert (held_of slots.old.items) name.now bytes.now) }
-    ensures marked { OnOk result (marked_of slots.new.items ≡ marked_roomy (marked_of slots.old.items) name.now (length bytes.now)) }
+    ensures held { OnOk result (held_of slots.new.items
+        ≡ map.insert (held_of slots.old.items) name.now bytes.now) }
+    ensures marked { OnOk result (marked_of slots.new.items
+        ≡ marked_roomy (marked_of slots.old.items) name.now (length bytes.now)) }
     ensures same_held { OnErr result (held_of slots.new.items ≡ held_of slots.old.items) }
     ensures same_marked { OnErr result (marked_of slots.new.items ≡ marked_of slots.old.items) }
 {
@@ -123,10 +128,13 @@ pub fn put(slots: &mut Vec<Slot>, alloc: Global, name: &str, bytes: &[u8]) -> Re
 
 /// Makes the bytes the file of a name, within its room.
 pub fn write(slots: &mut Vec<Slot>, name: &str, bytes: &[u8], fails: bool) -> Result<(), Failed>
-    requires { IsSomeAnd (map.get (marked_of slots.old.items) name.now) (λ m. length bytes.now ≤ m.room) }
+    requires { IsSomeAnd (map.get (marked_of slots.old.items) name.now)
+        (λ m. length bytes.now ≤ m.room) }
     ensures fails { is_err result ≡ fails }
-    ensures held { held_of slots.new.items ≡ held_written (held_of slots.old.items) name.now bytes.now result }
-    ensures marked { marked_of slots.new.items ≡ marked_written (marked_of slots.old.items) name.now result }
+    ensures held { held_of slots.new.items
+        ≡ held_written (held_of slots.old.items) name.now bytes.now result }
+    ensures marked { marked_of slots.new.items
+        ≡ marked_written (marked_of slots.old.items) name.now result }
 {
     let Some(i) = place_of(slots, name) else {
         unreachable!()

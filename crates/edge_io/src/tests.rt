@@ -82,6 +82,9 @@ fn a_file_of_the_disk_is_read_up_to_64_mib(rt: HostRuntime) -> Result<(), Fail> 
         bytes.as_ref().map(|b| b.as_slice()),
         Some(b"bytes".as_slice())
     );
+    assert_eq!(rt; files.write(name, b""), Ok(()));
+    let bytes = files.read(alloc, name).ok();
+    assert_eq!(rt; bytes.as_ref().map(|b| b.len()), Some(0));
     assert_eq!(rt;
         files.write("edge_io_no_folder/file", b"bytes"),
         Err(Failed)
