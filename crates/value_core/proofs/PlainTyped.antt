@@ -2,6 +2,7 @@
 use Rattle.std.proofs.Common.{◌≡◌, ℕ, ◌+◌, ◌≤◌, max, Bool, true, false, List, [], ◌∷◌, map, refl, ap, sym, ◌∙◌, arith}
 use Rattle.std.specs.Prelude.{◌&&◌}
 use Rattle.std.specs.List.{list_all}
+use Rattle.std.proofs.lemmas.Bool.{and_parts}
 use Rattle.value_core.specs.declared.val.Val.{Val}
 use Rattle.value_core.specs.declared.val.Val.TheOpen as one
 use Rattle.value_core.specs.declared.val.Val.TheViews.{out-Val}
@@ -16,16 +17,10 @@ use Rattle.value_core.specs.Kinds.{is_passable, passable_level}
 use Rattle.value_core.specs.Sound.{is_plain, is_settled_level, is_sound_level}
 use Rattle.value_core.specs.Typed.{fits, fits_level, has_type}
 use Rattle.value_core.specs.Depth.{depth_of, depth_of_type, greatest, level_depth}
+use Rattle.value_core.proofs.Bools.{both_true}
 use Rattle.value_core.proofs.Levels.{Each, by_level-is, induction, parts_of-on_parts}
 use Rattle.value_core.proofs.Everywhere.{everywhere-is}
-
-both_true : (a b : Bool) → (a && b) ≡ true → (a ≡ true) × (b ≡ true)
-both_true true b h = (refl, h)
-both_true false b h = cc
-
-and_true : (a b : Bool) → a ≡ true → b ≡ true → (a && b) ≡ true
-and_true true b p q = q
-and_true false b p q = cc
+use Rattle.value_core.proofs.TypeEquations.{fits-is}
 
 -- ---- tests of every level, one beside another
 
@@ -36,19 +31,16 @@ module _ (p q r : Layer Val → Bool) (joins : (x : Layer Val) → p x ≡ true 
   all_join : (vs : List Val) → Each Joins vs → list_all (everywhere p) vs ≡ true → list_all (everywhere q) vs ≡ true → list_all (everywhere r) vs ≡ true
   all_join [] h a b = refl
   all_join (v ∷ vs) h a b =
-      let first = both_true _ _ a in
-      let second = both_true _ _ b in
-      and_true _ _ (h.0 first.0 second.0) (all_join vs h.1 first.1 second.1)
+      let first = and_parts _ _ a in
+      let second = and_parts _ _ b in
+      both_true _ _ (h.0 first.0 second.0) (all_join vs h.1 first.1 second.1)
 
   -- what two tests give at each level they give everywhere
   pub everywhere-joins : (v : Val) → Joins v
   everywhere-joins = induction Joins (λ v h a b.
-      let first = both_true _ _ (sym (everywhere-is p v) ∙ a) in
-      let second = both_true _ _ (sym (everywhere-is q v) ∙ b) in
-      everywhere-is r v ∙ and_true _ _ (joins (out-Val v) first.0 second.0) (all_join (parts_of (out-Val v)) h first.1 second.1))
-
-fits-is : (v : Val) (t : Ty) → fits v t ≡ fits_level (on_parts fits (out-Val v)) (out-Ty t)
-fits-is v t = ap (λ f. f t) (by_level-is {A = Ty → Bool} (λ x t. fits_level x (out-Ty t)) v)
+      let first = and_parts _ _ (sym (everywhere-is p v) ∙ a) in
+      let second = and_parts _ _ (sym (everywhere-is q v) ∙ b) in
+      everywhere-is r v ∙ both_true _ _ (joins (out-Val v) first.0 second.0) (all_join (parts_of (out-Val v)) h first.1 second.1))
 
 -- ---- values of passable types
 
@@ -62,8 +54,8 @@ module _ (t : Ty) (passable : is_passable t ≡ true) where
   settled_items : (vs : List Val) → Each IsSettled vs → list_all (λ f. f t) (map fits vs) ≡ true → list_all settled vs ≡ true
   settled_items [] h f = refl
   settled_items (v ∷ vs) h f =
-      let fit = both_true _ _ f in
-      and_true _ _ (h.0 t fit.0 passable) (settled_items vs h.1 fit.1)
+      let fit = and_parts _ _ f in
+      both_true _ _ (h.0 t fit.0 passable) (settled_items vs h.1 fit.1)
 
 abbrev both : Val × Val → (Ty → Bool) × (Ty → Bool)
 both e = (fits e.0, fits e.1)
@@ -72,9 +64,9 @@ module _ (k v : Ty) (keys : is_passable k ≡ true) (values : is_passable v ≡ 
   settled_entries : (es : List (Val × Val)) → Each IsSettled (flat es) → list_all (λ e. e.0 k && e.1 v) (map both es) ≡ true → list_all settled (flat es) ≡ true
   settled_entries [] h f = refl
   settled_entries (e ∷ es) h f =
-      let fit = both_true _ _ f in
-      let part = both_true _ _ fit.0 in
-      and_true _ _ (h.0 k part.0 keys) (and_true _ _ (h.1.0 v part.1 values) (settled_entries es h.1.1 fit.1))
+      let fit = and_parts _ _ f in
+      let part = and_parts _ _ fit.0 in
+      both_true _ _ (h.0 k part.0 keys) (both_true _ _ (h.1.0 v part.1 values) (settled_entries es h.1.1 fit.1))
 
 abbrev level_settled : Layer Val → Bool
 level_settled x = is_settled_level x && list_all settled (parts_of x)
@@ -91,16 +83,16 @@ settled_layer (one.Text bytes) y h f p = refl
 settled_layer (one.Bytes bytes) y h f p = refl
 settled_layer (one.Addr address) y h f p = refl
 settled_layer one.Nothing y h f p = refl
-settled_layer (one.Some part) (ty.Option t) h f p = and_true _ _ (h.0 t f p) refl
-settled_layer (one.Left part) (ty.Or s t) h f p = and_true _ _ (h.0 s f (both_true _ _ p).0) refl
-settled_layer (one.Right part) (ty.Or s t) h f p = and_true _ _ (h.0 t f (both_true _ _ p).1) refl
+settled_layer (one.Some part) (ty.Option t) h f p = both_true _ _ (h.0 t f p) refl
+settled_layer (one.Left part) (ty.Or s t) h f p = both_true _ _ (h.0 s f (and_parts _ _ p).0) refl
+settled_layer (one.Right part) (ty.Or s t) h f p = both_true _ _ (h.0 t f (and_parts _ _ p).1) refl
 settled_layer (one.Pair a b) (ty.Pair s t) h f p =
-    let fit = both_true _ _ f in
-    let passable = both_true _ _ p in
-    and_true _ _ (h.0 s fit.0 passable.0) (and_true _ _ (h.1.0 t fit.1 passable.1) refl)
+    let fit = and_parts _ _ f in
+    let passable = and_parts _ _ p in
+    both_true _ _ (h.0 s fit.0 passable.0) (both_true _ _ (h.1.0 t fit.1 passable.1) refl)
 settled_layer (one.List items) (ty.List t) h f p = settled_items t p items h f
 settled_layer (one.Set items) (ty.Set t) h f p = settled_items t p items h f
-settled_layer (one.Map entries) (ty.Map k v) h f p = settled_entries k v (both_true _ _ p).0 (both_true _ _ p).1 entries h f
+settled_layer (one.Map entries) (ty.Map k v) h f p = settled_entries k v (and_parts _ _ p).0 (and_parts _ _ p).1 entries h f
 settled_layer (one.BigMap place version) (ty.BigMap k v) h f p = cc
 settled_layer (one.Contract address entry) (ty.Contract t) h f p = cc
 settled_layer (one.Operation emit) ty.Operation h f p = cc
@@ -113,8 +105,8 @@ passable_is_settled = induction IsSettled (λ v h t f p.
 
 pub passable_is_plain : (v : Val) (t : Ty) → has_type v t ≡ true → is_passable t ≡ true → is_plain v ≡ true
 passable_is_plain v t typed passable =
-    let both = both_true _ _ typed in
-    everywhere-joins is_sound_level is_settled_level (λ x. is_sound_level x && is_settled_level x) (λ x p q. and_true _ _ p q)
+    let both = and_parts _ _ typed in
+    everywhere-joins is_sound_level is_settled_level (λ x. is_sound_level x && is_settled_level x) (λ x p q. both_true _ _ p q)
     v both.0 (passable_is_settled v t both.1 passable)
 
 -- ---- how deep values are
@@ -126,8 +118,8 @@ module _ (t : Ty) where
   items_within : (vs : List Val) → Each IsWithin vs → list_all (λ f. f t) (map fits vs) ≡ true → list_all settled vs ≡ true → greatest (map depth_of vs) ≤ depth_of_type t
   items_within [] h f s = omega arith
   items_within (v ∷ vs) h f s =
-      let fit = both_true _ _ f in
-      let still = both_true _ _ s in
+      let fit = and_parts _ _ f in
+      let still = and_parts _ _ s in
       let first : depth_of v ≤ depth_of_type t = h.0 t fit.0 still.0 in
       let rest : greatest (map depth_of vs) ≤ depth_of_type t = items_within vs h.1 fit.1 still.1 in
       omega arith
@@ -137,10 +129,10 @@ module _ (k v : Ty) where
       greatest (map depth_of (flat es)) ≤ max (depth_of_type k) (depth_of_type v)
   entries_within [] h f s = omega arith
   entries_within (e ∷ es) h f s =
-      let fit = both_true _ _ f in
-      let part = both_true _ _ fit.0 in
-      let still = both_true _ _ s in
-      let value_still = both_true _ _ still.1 in
+      let fit = and_parts _ _ f in
+      let part = and_parts _ _ fit.0 in
+      let still = and_parts _ _ s in
+      let value_still = and_parts _ _ still.1 in
       let key : depth_of e.0 ≤ depth_of_type k = h.0 k part.0 still.0 in
       let value : depth_of e.1 ≤ depth_of_type v = h.1.0 v part.1 value_still.0 in
       let rest : greatest (map depth_of (flat es)) ≤ max (depth_of_type k) (depth_of_type v) = entries_within es h.1.1 fit.1 value_still.1 in
@@ -168,19 +160,19 @@ layer_within one.Nothing y h f s = one_deep y
 layer_within (one.BigMap place version) y h f s = one_deep y
 layer_within (one.Contract address entry) y h f s = one_deep y
 layer_within (one.Operation emit) y h f s = cc
-layer_within (one.Some part) (ty.Option t) h f s = deeper part t (h.0 t f (both_true _ _ s).0)
+layer_within (one.Some part) (ty.Option t) h f s = deeper part t (h.0 t f (and_parts _ _ s).0)
   where
     deeper : (v : Val) (t : Ty) → depth_of v ≤ depth_of_type t → 1 + max (depth_of v) 0 ≤ 1 + depth_of_type t
     deeper v t le = omega arith
 layer_within (one.Left part) (ty.Or s t) h f still =
-    let le : depth_of part ≤ depth_of_type s = h.0 s f (both_true _ _ still).0 in omega arith
+    let le : depth_of part ≤ depth_of_type s = h.0 s f (and_parts _ _ still).0 in omega arith
 layer_within (one.Right part) (ty.Or s t) h f still =
-    let le : depth_of part ≤ depth_of_type t = h.0 t f (both_true _ _ still).0 in omega arith
+    let le : depth_of part ≤ depth_of_type t = h.0 t f (and_parts _ _ still).0 in omega arith
 layer_within (one.Pair a b) (ty.Pair s t) h f still =
-    let fit = both_true _ _ f in
-    let first_still = both_true _ _ still in
+    let fit = and_parts _ _ f in
+    let first_still = and_parts _ _ still in
     let first : depth_of a ≤ depth_of_type s = h.0 s fit.0 first_still.0 in
-    let second : depth_of b ≤ depth_of_type t = h.1.0 t fit.1 (both_true _ _ first_still.1).0 in
+    let second : depth_of b ≤ depth_of_type t = h.1.0 t fit.1 (and_parts _ _ first_still.1).0 in
     omega arith
 layer_within (one.List items) (ty.List t) h f s =
     let le : greatest (map depth_of items) ≤ depth_of_type t = items_within t items h f s in omega arith
@@ -202,7 +194,7 @@ settled_within = induction IsWithin (λ v h t f s.
     omega arith)
 
 second_holds : (x : Layer Val) → (is_sound_level x && is_settled_level x) ≡ true → is_settled_level x ≡ true
-second_holds x both = (both_true _ _ both).1
+second_holds x both = (and_parts _ _ both).1
 
 pub plain_within : (v : Val) (t : Ty) → is_plain v ≡ true → fits v t ≡ true → depth_of v ≤ depth_of_type t
 plain_within v t plain fit =

@@ -69,6 +69,26 @@ placing = fold-Ty Placing placing_level
 abbrev pub is_placed : Val → Ty → Bool
 is_placed v t = (placing t).1 0 v
 
+-- the places that stand in a pair, first those of its first part
+abbrev pub places_in_pair : (Val → List ℕ) → (Val → List ℕ) → Layer Val → List ℕ
+places_in_pair s t (one.Pair a b) = s a ++ t b
+places_in_pair s t _ = []
+
+-- the place of a big map
+abbrev pub place_of : Layer Val → List ℕ
+place_of (one.BigMap place version) = place ∷ []
+place_of _ = []
+
+-- one level of a type, where each part tells the places in a value of its own
+abbrev pub places_level : Ty-F (Val → List ℕ) → Val → List ℕ
+places_level (ty.Pair s t) v = places_in_pair s t (out-Val v)
+places_level (ty.BigMap k w) v = place_of (out-Val v)
+places_level _ v = []
+
+-- the places of the big maps of a value, where its type has some, from the left
+abbrev pub places_of : Ty → Val → List ℕ
+places_of = fold-Ty (Val → List ℕ) places_level
+
 -- the place behind the big maps of a value, if they stand from the first place on
 abbrev pub place_behind : Placing → ℕ → Val → Option ℕ
 place_behind p first v = if p.1 first v then Some (first + p.0) else None

@@ -1,9 +1,10 @@
 //! Addresses, and what isn't one.
 
 ghost use Rattle.std.specs.Prelude.{◌≡◌, ◌≢◌, ◌↔◌, IsTrue, length, slice_index};
-ghost use Rattle.value_core.specs.Leaves.{is_address};
 ghost use Rattle.value_core.specs.Addresses.{IsAnswer};
+ghost use Rattle.value_core.specs.Lawful.{is_lawful_address};
 
+use crate::small::bytes_are_small;
 use std::cmp::Ordering;
 use std::marker::Model;
 
@@ -46,6 +47,7 @@ impl Address {
         if b[0] > 1 {
             return Err(AddressFault::BadFirst(b[0]));
         }
+        bytes_are_small(b);
         let mut bytes = [0; 22];
         bytes.copy_from_slice(b);
         Ok(Address { bytes })
@@ -61,8 +63,9 @@ impl Address {
     /// The 22 bytes.
     pub fn bytes(&self) -> &[u8; 22]
         ensures value { result.now ≡ self.now }
-        ensures address { IsTrue (is_address self.now) }
+        ensures lawful { IsTrue (is_lawful_address self.now) }
     {
+        bytes_are_small(&self.bytes);
         &self.bytes
     }
 }

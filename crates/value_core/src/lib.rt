@@ -45,6 +45,7 @@ mod ordering;
 mod plainness;
 mod sameness;
 mod sizing;
+mod small;
 mod sorted;
 mod sorted_laws;
 mod soundness;
@@ -60,7 +61,7 @@ pub use big_maps::{count_big_maps, has_no_big_map, is_placed};
 pub use depth::{is_within_depth, type_is_within_depth};
 pub use inserting::{map_put, set_insert};
 pub use kinds::{is_comparable, is_passable};
-pub use lawfulness::leaves_are_lawful;
+pub use lawfulness::{leaves_are_lawful, level_is_lawful};
 pub use laws::{
     everywhere_is_here_and_in_the_parts, sizes_count_what_is_there, typed_scalars_have_their_form,
     typed_values_have_their_form, types_go_by_parts,

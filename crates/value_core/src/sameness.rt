@@ -28,10 +28,7 @@ impl Val {
                     v = a.get();
                     w = b.get();
                 }
-                (Val::Pair(a, b), Val::Pair(c, d)) => {
-                    if !a.get().same(c.get()) {
-                        return false;
-                    }
+                (Val::Pair(a, b), Val::Pair(c, d)) if a.get().same(c.get()) => {
                     v = b.get();
                     w = d.get();
                 }
@@ -39,13 +36,9 @@ impl Val {
                     return all_same(a.as_slice(), b.as_slice());
                 }
                 (Val::Map(a), Val::Map(b)) => return entries_same(a.as_slice(), b.as_slice()),
-                (
-                    Val::BigMap { place, version },
-                    Val::BigMap {
-                        place: other_place,
-                        version: other_version,
-                    },
-                ) => return *place == *other_place && *version == *other_version,
+                (Val::BigMap { place, version: m }, Val::BigMap { place: p, version }) => {
+                    return *place == *p && *m == *version;
+                }
                 (Val::Contract(a, b), Val::Contract(c, d)) => return *a == *c && *b == *d,
                 (Val::Operation(a), Val::Operation(b)) => return a.get().same(b.get()),
                 _ => return false,

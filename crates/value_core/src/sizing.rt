@@ -1,18 +1,22 @@
 //! How large a value is.
 
-ghost use Rattle.std.specs.Prelude.{◌≡◌, ◌-◌, ◌^◌, ◌+◌, min, sum_by};
+ghost use Rattle.std.specs.Prelude.{◌≡◌, ◌-◌, ◌^◌, ◌+◌, IsTrue, min, sum_by};
+ghost use Rattle.std.specs.List.{list_all};
+ghost use Rattle.value_core.specs.Lawful.{is_lawful, is_lawful_entry};
 ghost use Rattle.value_core.specs.Size.{entry_size, size_of};
 
+use crate::lawfulness::level_is_lawful;
 use crate::val::Val;
 
 /// The size of the value, or 2^64 - 1 where it is greater.
 #[cycle(sizing)]
 pub fn size(v: &Val) -> u64
-    ensures { result ≡ min (size_of v.now) (2 ^ 64 - 1) }
+    ensures size { result ≡ min (size_of v.now) (2 ^ 64 - 1) }
+    ensures lawful { IsTrue (is_lawful v.now) }
 {
-    let mut v = v;
-    let mut before: u64 = 0;
+    let (mut v, mut before) = (v, 0_u64);
     loop {
+        level_is_lawful(v);
         match v {
             Val::Some(part) | Val::Left(part) | Val::Right(part) => {
                 before = before.saturating_add(1);
@@ -31,9 +35,7 @@ pub fn size(v: &Val) -> u64
             Val::List(items) | Val::Set(items) => {
                 return before.saturating_add(size_of_items(items.as_slice()));
             }
-            Val::Map(entries) => {
-                return before.saturating_add(size_of_entries(entries.as_slice()));
-            }
+            Val::Map(entries) => return before.saturating_add(size_of_entries(entries.as_slice())),
             Val::Unit
             | Val::Bool(_)
             | Val::Int(_)
@@ -50,7 +52,8 @@ pub fn size(v: &Val) -> u64
 
 #[cycle(sizing)]
 fn size_of_items(items: &[Val]) -> u64
-    ensures { result ≡ min (1 + sum_by size_of items.now) (2 ^ 64 - 1) }
+    ensures size { result ≡ min (1 + sum_by size_of items.now) (2 ^ 64 - 1) }
+    ensures lawful { IsTrue (list_all is_lawful items.now) }
 {
     let mut total: u64 = 1;
     for item in items {
@@ -61,7 +64,8 @@ fn size_of_items(items: &[Val]) -> u64
 
 #[cycle(sizing)]
 fn size_of_entries(entries: &[(Val, Val)]) -> u64
-    ensures { result ≡ min (1 + sum_by entry_size entries.now) (2 ^ 64 - 1) }
+    ensures size { result ≡ min (1 + sum_by entry_size entries.now) (2 ^ 64 - 1) }
+    ensures lawful { IsTrue (list_all is_lawful_entry entries.now) }
 {
     let mut total: u64 = 1;
     for entry in entries {

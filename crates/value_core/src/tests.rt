@@ -2,7 +2,7 @@
 
 use crate::{
     Address, AddressFault, Blob, Emit, Name, Num, Text, Ty, Val, comb, compare, has_type,
-    is_comparable, is_passable, left, operation, pair, right, size, some,
+    is_comparable, is_passable, left, map_put, operation, pair, right, set_insert, size, some,
 };
 use sqlite_items::{Boxed, Items};
 use std::alloc::Global;
@@ -75,6 +75,24 @@ fn a_copy_of_an_operation_is_the_same_operation(rt: HostRuntime) -> Result<(), F
     // the operation, Right, the map, its key, Left, the list, Some, and the bytes
     assert_eq!(rt; size(&w), 8);
     assert!(rt; has_type(&w, &Ty::Operation));
+    Ok(())
+}
+
+#[test]
+fn a_key_is_put_into_an_empty_set(rt: HostRuntime) -> Result<(), Fail> {
+    let alloc = rt.alloc();
+    let mut items = Items::new(alloc);
+    assert!(rt; set_insert(alloc, &mut items, Val::Mutez(7))?);
+    assert_eq!(rt; items.len(), 1);
+    Ok(())
+}
+
+#[test]
+fn a_key_is_put_into_an_empty_map(rt: HostRuntime) -> Result<(), Fail> {
+    let alloc = rt.alloc();
+    let mut entries = Items::new(alloc);
+    map_put(alloc, &mut entries, Val::Mutez(7), Val::Unit)?;
+    assert_eq!(rt; entries.len(), 1);
     Ok(())
 }
 

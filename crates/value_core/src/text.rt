@@ -2,9 +2,11 @@
 
 ghost use Rattle.std.specs.Prelude.{◌≡◌, ◌↔◌, IfOk, IsTrue, SomeIff};
 ghost use Rattle.std.specs.List.{list_all};
+ghost use Rattle.value_core.specs.Lawful.{is_lawful_blob};
 ghost use Rattle.value_core.specs.Leaves.{is_blob, is_printable, is_text};
 
 use crate::memory::NoMemory;
+use crate::small::bytes_are_small;
 use std::alloc::Global;
 use std::marker::Model;
 
@@ -108,9 +110,11 @@ impl Blob {
     /// The bytes themselves.
     pub fn bytes(&self) -> &[u8]
         ensures value { result.now ≡ self.now }
-        ensures blob { IsTrue (is_blob self.now) }
+        ensures lawful { IsTrue (is_lawful_blob self.now) }
     {
-        self.bytes.as_slice()
+        let bytes = self.bytes.as_slice();
+        bytes_are_small(bytes);
+        bytes
     }
 
     /// Equal bytes.

@@ -5,3 +5,6 @@ pub mod TypeDepthEquations
 pub mod SizeEquations
 pub mod TagEquations
 pub mod OrderEquations
+pub mod PlaceLaws
+pub mod KindLaws
+pub mod Passing
