@@ -1,5 +1,5 @@
 -- What has a spelling, level by level.
-use Rattle.std.proofs.Common.{◌≡◌, ℕ, zero, suc, ◌+◌, ◌≤◌, Bool, true, false, List, [], ◌∷◌, map, refl, sym, ap, subst, ◌∙◌, arith}
+use Rattle.std.proofs.Common.{◌≡◌, ℕ, zero, suc, ◌+◌, ◌≤◌, true, false, List, [], ◌∷◌, map, refl, sym, ap, subst, ◌∙◌, arith}
 use Rattle.std.specs.Prelude.{IsTrue, ◌&&◌, nat_le}
 use Rattle.std.specs.List.{list_all, AllByRecursion}
 use Rattle.value_core.specs.declared.val.Val.{Val}
@@ -7,26 +7,12 @@ use Rattle.value_core.specs.declared.val.Val.TheOpen as one
 use Rattle.value_core.specs.declared.val.Val.TheViews.{out-Val, roll-Val}
 use Rattle.value_core.specs.Layer.{Layer, parts_of, tag_of}
 use Rattle.value_core.specs.Sound.{is_plain, is_sound_level, is_settled_level}
-use Rattle.value_core.specs.Everywhere.{everywhere}
+use Rattle.value_core.proofs.Bools.{both_true, first_true, second_true}
 use Rattle.value_core.proofs.Levels.{Each, induction, by_level-is, out-roll, parts_of-on_parts}
 use Rattle.value_core.proofs.Everywhere.{everywhere-is}
 use Rattle.value_core.specs.Depth.{greatest, depth_of}
 use Rattle.value_core.specs.Lawful.{is_lawful, is_lawful_level}
 use Rattle.value_codec.specs.Spelling.{has_tags, IsSpelt}
-
--- ---- tests
-
-pub both_true : (a b : Bool) → a ≡ true → b ≡ true → (a && b) ≡ true
-both_true true b p q = q
-both_true false b p q = p
-
-pub first_true : (a b : Bool) → (a && b) ≡ true → a ≡ true
-first_true true b h = refl
-first_true false b h = h
-
-pub second_true : (a b : Bool) → (a && b) ≡ true → b ≡ true
-second_true true b h = h
-second_true false b h = absurd cc
 
 -- ---- one level
 

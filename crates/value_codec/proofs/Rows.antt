@@ -19,7 +19,8 @@ use Rattle.value_core.proofs.LawfulLemmas.{all_small, small_all}
 use Rattle.value_codec.specs.Spelling.{word, signed_word, spell, spell_entry}
 use Rattle.value_codec.specs.Reading.{num, nat, mutez, measured, address, place, is_above, ascending, entries, value}
 use Rattle.value_codec.proofs.Numbers.{number_fits}
-use Rattle.value_codec.proofs.Levels.{IsGood, both_true, first_true, second_true}
+use Rattle.value_core.proofs.Bools.{both_true, first_true, second_true}
+use Rattle.value_codec.proofs.Levels.{IsGood}
 use Rattle.value_codec.proofs.Ascending.{GoodNext, next_key, from_along, to_along}
 
 -- ---- numbers

@@ -1,5 +1,5 @@
 -- One turn of each loop of the reader, and the reader at its tag.
-use Rattle.std.proofs.Common.{◌≡◌, ℕ, zero, suc, ◌+◌, ◌-◌, ◌≤◌, ◌<◌, true, List, [], ◌∷◌, ◌++◌, Some, Ok, refl, sym, ap, arith}
+use Rattle.std.proofs.Common.{◌≡◌, ℕ, zero, suc, ◌+◌, ◌-◌, ◌<◌, true, List, [], ◌∷◌, ◌++◌, Some, Ok, refl, sym, ap, arith}
 use Rattle.std.specs.Int.{w8}
 use Rattle.byte_fields.specs.Readers.{Read, Reader, after, checked, number, many}
 use Rattle.byte_fields.proofs.Loops.{with_front, goes_on}

@@ -1,5 +1,5 @@
 -- The law of the reader of values, by its depth.
-use Rattle.std.proofs.Common.{◌≡◌, ℕ, ℤ, zero, suc, pos, ◌^◌, ◌<◌, ◌≤◌, Bool, true, false, cond, List, [], ◌∷◌, ◌++◌, length, map, eqb, refl, sym, ap, subst, arith}
+use Rattle.std.proofs.Common.{◌≡◌, ℕ, ℤ, zero, suc, pos, ◌^◌, ◌≤◌, Bool, true, false, cond, List, [], ◌∷◌, ◌++◌, length, map, eqb, refl, sym, ap, subst, arith}
 use Rattle.std.specs.Prelude.{IsTrue, int_le, nat_lt, nat_le}
 use Rattle.std.specs.List.{flat_map, AllByRecursion}
 use Rattle.std.specs.Int.{w8, w64, to_be_bytes}
@@ -13,14 +13,15 @@ use Rattle.value_core.specs.declared.val.Val.TheVariants as variant
 use Rattle.value_core.specs.declared.val.Val.TheOpen as one
 use Rattle.value_core.specs.declared.val.Val.TheViews.{out-Val, roll-Val}
 use Rattle.value_core.specs.Layer.{Layer, flat, parts_of}
-use Rattle.value_core.specs.Lawful.{is_lawful_address, is_lawful_blob, is_lawful_level, is_number}
+use Rattle.value_core.specs.Lawful.{is_lawful_address, is_lawful_blob, is_number}
 use Rattle.value_core.specs.Leaves.{is_text}
-use Rattle.value_core.specs.Sound.{ascends, is_countable, is_sound_level, is_settled_level}
+use Rattle.value_core.specs.Sound.{ascends, is_countable}
 use Rattle.value_core.proofs.Levels.{roll-out}
 use Rattle.value_codec.specs.Spelling.{word, signed_word, spell, spell_entry, IsSpelt}
 use Rattle.value_codec.specs.Reading.{is_tag, behind, value}
 use Rattle.value_codec.proofs.Spelt.{spell_unit, spell_bool, spell_int, spell_nat, spell_mutez, spell_time, spell_text, spell_bytes, spell_addr, spell_nothing, spell_some, spell_left, spell_right, spell_pair, spell_list, spell_set, spell_map, spell_big_map}
-use Rattle.value_codec.proofs.Levels.{GoodLevel, IsGood, good_at, is_good, is_spelt, both_true, first_true, second_true}
+use Rattle.value_core.proofs.Bools.{both_true, first_true, second_true}
+use Rattle.value_codec.proofs.Levels.{GoodLevel, IsGood, good_at, is_good, is_spelt}
 use Rattle.value_codec.proofs.Rows.{num_reads, nat_reads, mutez_reads, text_reads, blob_reads, address_reads, place_reads, list_reads, set_reads, map_reads}
 
 -- ---- the values of each row

@@ -1,9 +1,11 @@
 //! Reading values.
 
 ghost use Rattle.std.specs.Prelude.{◌≡◌, ◌≤◌, None, length, drop, IfOk};
-ghost use Rattle.byte_fields.specs.Readers.{many};
+ghost use Rattle.std.specs.Int.{w32};
+ghost use Rattle.byte_fields.specs.Readers.{both, made, many, number, with};
 ghost use Rattle.byte_fields.specs.Told.{AnswersUnlessFull, placed, read_stop, field_fault};
 ghost use Rattle.byte_fields.specs.Laws.{Spelt, TellsSpelt};
+ghost use Rattle.value_core.specs.declared.val.Val.TheVariants as variant;
 ghost use Rattle.value_codec.specs.Lasts.{last_item, last_key};
 ghost use Rattle.value_codec.specs.Spelling.{spell, IsSpelt};
 ghost use Rattle.value_codec.specs.Reading.{ascending, behind, entries, is_above, is_tag, value};
@@ -88,41 +90,90 @@ fn behind(
         8 => blob_at(alloc, bytes),
         9 => Ok(addr_at(bytes)?),
         10 => Ok((Val::Nothing, bytes)),
-        11 => {
-            let (part, rest) = value_at(alloc, most, depth, bytes)?;
-            Ok((some(alloc, part)?, rest))
-        }
-        12 => {
-            let (part, rest) = value_at(alloc, most, depth, bytes)?;
-            Ok((left(alloc, part)?, rest))
-        }
-        13 => {
-            let (part, rest) = value_at(alloc, most, depth, bytes)?;
-            Ok((right(alloc, part)?, rest))
-        }
-        14 => {
-            let (a, rest) = value_at(alloc, most, depth, bytes)?;
-            let (b, rest) = value_at(alloc, most, depth, rest)?;
-            Ok((pair(alloc, a, b)?, rest))
-        }
-        15 => {
-            let (count, rest) = u32_at(bytes)?;
-            let (items, rest) = items_at(alloc, most, depth, count, rest)?;
-            Ok((Val::List(items), rest))
-        }
-        16 => {
-            let (count, rest) = u32_at(bytes)?;
-            let (items, rest) = ascending_at(alloc, most, depth, count, rest)?;
-            Ok((Val::Set(items), rest))
-        }
-        17 => {
-            let (count, rest) = u32_at(bytes)?;
-            let (entries, rest) = entries_at(alloc, most, depth, count, rest)?;
-            Ok((Val::Map(entries), rest))
-        }
+        11 => some_at(alloc, most, depth, bytes),
+        12 => left_at(alloc, most, depth, bytes),
+        13 => right_at(alloc, most, depth, bytes),
+        14 => pair_at(alloc, most, depth, bytes),
+        15 => list_at(alloc, most, depth, bytes),
+        16 => set_at(alloc, most, depth, bytes),
+        17 => map_at(alloc, most, depth, bytes),
         18 => Ok(big_map_at(bytes)?),
         _ => Err(ReadStop::Left(bytes.len())),
     }
+}
+
+/// What stands behind the tag of an option with its value.
+#[cycle(reading)]
+fn some_at(alloc: Global, most: u8, depth: u32, bytes: &[u8]) -> Result<(Val, &[u8]), ReadStop>
+    ensures { AnswersUnlessFull read_stop (λ x. (x.0, x.1.now)) result
+        (made variant.Some (value most depth) bytes.now) }
+{
+    let (part, rest) = value_at(alloc, most, depth, bytes)?;
+    Ok((some(alloc, part)?, rest))
+}
+
+/// What stands behind the tag of the left of an `or`.
+#[cycle(reading)]
+fn left_at(alloc: Global, most: u8, depth: u32, bytes: &[u8]) -> Result<(Val, &[u8]), ReadStop>
+    ensures { AnswersUnlessFull read_stop (λ x. (x.0, x.1.now)) result
+        (made variant.Left (value most depth) bytes.now) }
+{
+    let (part, rest) = value_at(alloc, most, depth, bytes)?;
+    Ok((left(alloc, part)?, rest))
+}
+
+/// What stands behind the tag of the right of an `or`.
+#[cycle(reading)]
+fn right_at(alloc: Global, most: u8, depth: u32, bytes: &[u8]) -> Result<(Val, &[u8]), ReadStop>
+    ensures { AnswersUnlessFull read_stop (λ x. (x.0, x.1.now)) result
+        (made variant.Right (value most depth) bytes.now) }
+{
+    let (part, rest) = value_at(alloc, most, depth, bytes)?;
+    Ok((right(alloc, part)?, rest))
+}
+
+/// What stands behind the tag of a pair.
+#[cycle(reading)]
+fn pair_at(alloc: Global, most: u8, depth: u32, bytes: &[u8]) -> Result<(Val, &[u8]), ReadStop>
+    ensures { AnswersUnlessFull read_stop (λ x. (x.0, x.1.now)) result
+        (made (λ p. variant.Pair p.0 p.1) (both (value most depth) (value most depth)) bytes.now) }
+{
+    let (a, rest) = value_at(alloc, most, depth, bytes)?;
+    let (b, rest) = value_at(alloc, most, depth, rest)?;
+    Ok((pair(alloc, a, b)?, rest))
+}
+
+/// What stands behind the tag of a list.
+#[cycle(reading)]
+fn list_at(alloc: Global, most: u8, depth: u32, bytes: &[u8]) -> Result<(Val, &[u8]), ReadStop>
+    ensures { AnswersUnlessFull read_stop (λ x. (x.0, x.1.now)) result
+        (made variant.List (with (number w32) (many (value most depth))) bytes.now) }
+{
+    let (count, rest) = u32_at(bytes)?;
+    let (items, rest) = items_at(alloc, most, depth, count, rest)?;
+    Ok((Val::List(items), rest))
+}
+
+/// What stands behind the tag of a set.
+#[cycle(reading)]
+fn set_at(alloc: Global, most: u8, depth: u32, bytes: &[u8]) -> Result<(Val, &[u8]), ReadStop>
+    ensures { AnswersUnlessFull read_stop (λ x. (x.0, x.1.now)) result
+        (made variant.Set (with (number w32) (ascending (value most depth) None)) bytes.now) }
+{
+    let (count, rest) = u32_at(bytes)?;
+    let (items, rest) = ascending_at(alloc, most, depth, count, rest)?;
+    Ok((Val::Set(items), rest))
+}
+
+/// What stands behind the tag of a map.
+#[cycle(reading)]
+fn map_at(alloc: Global, most: u8, depth: u32, bytes: &[u8]) -> Result<(Val, &[u8]), ReadStop>
+    ensures { AnswersUnlessFull read_stop (λ x. (x.0, x.1.now)) result
+        (made variant.Map (with (number w32) (entries (value most depth) None)) bytes.now) }
+{
+    let (count, rest) = u32_at(bytes)?;
+    let (entries, rest) = entries_at(alloc, most, depth, count, rest)?;
+    Ok((Val::Map(entries), rest))
 }
 
 #[cycle(reading)]

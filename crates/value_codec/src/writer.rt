@@ -1,8 +1,9 @@
 //! Writing values.
 
-ghost use Rattle.std.specs.Prelude.{◌≡◌, ◌≤◌, ◌++◌, ◌∷◌, [], OnOk, OnErr, IsTrue};
+ghost use Rattle.std.specs.Prelude.{◌≡◌, ◌≤◌, ◌++◌, ◌∷◌, [], OnOk, OnErr, IsTrue, length};
 ghost use Rattle.std.specs.Int.{w8, w64, to_be_bytes};
-ghost use Rattle.std.specs.List.{flat_map};
+ghost use Rattle.std.specs.List.{flat_map, list_all};
+ghost use Rattle.value_core.specs.Lawful.{is_lawful, is_lawful_entry};
 ghost use Rattle.value_core.specs.Sound.{is_plain};
 ghost use Rattle.value_core.specs.Depth.{depth_of};
 ghost use Rattle.value_codec.specs.Spelling.{word, measured_text, signed_word, spell, spell_entry, IsSpelt};
@@ -10,7 +11,7 @@ ghost use Rattle.value_codec.specs.Spelling.{word, measured_text, signed_word, s
 use crate::tag::ANY_VALUE;
 use byte_fields::Draft;
 use std::alloc::Global;
-use value_core::{Address, NoMemory, Num, Val, leaves_are_lawful};
+use value_core::{Address, NoMemory, Num, Val, leaves_are_lawful, level_is_lawful};
 
 /// Appends the spelling of the value.
 pub fn write_val(alloc: Global, v: &Val, out: &mut Vec<u8>) -> Result<(), NoMemory>
@@ -34,17 +35,18 @@ pub fn put_val(v: &Val, draft: &mut Draft) -> Result<(), NoMemory>
     ensures spelt { OnOk result (IsSpelt ANY_VALUE 128 v.now) }
     ensures before { draft.new.before ≡ draft.old.before }
 {
-    leaves_are_lawful(v);
     put(v, draft)
 }
 
 /// Adds the spelling of any value; contracts and operations have none.
 #[cycle(writing)]
-#[tactic(auto, using(crate::proofs::Spelt::spellings))]
+#[tactic(auto, using(crate::proofs::Spelt::spellings, value_core::proofs::LawfulLemmas::lawful_lists))]
 fn put(v: &Val, draft: &mut Draft) -> Result<(), NoMemory>
     ensures added { OnOk result (draft.new.added ≡ draft.old.added ++ spell v.now) }
+    ensures lawful { OnOk result (IsTrue (is_lawful v.now)) }
     ensures before { draft.new.before ≡ draft.old.before }
 {
+    level_is_lawful(v);
     match v {
         Val::Unit => draft.put_u8(0),
         Val::Bool(b) => draft.put_u8(if *b { 2 } else { 1 }),
@@ -73,28 +75,22 @@ fn put(v: &Val, draft: &mut Draft) -> Result<(), NoMemory>
             put(a.get(), draft)?;
             put(b.get(), draft)
         }
-        Val::List(items) => {
-            put_head(15, items.len(), draft)?;
-            put_items(items.as_slice(), draft)
-        }
-        Val::Set(items) => {
-            put_head(16, items.len(), draft)?;
-            put_items(items.as_slice(), draft)
-        }
-        Val::Map(entries) => {
-            put_head(17, entries.len(), draft)?;
-            put_entries(entries.as_slice(), draft)
-        }
+        Val::List(items) => put_items(15, items.as_slice(), draft),
+        Val::Set(items) => put_items(16, items.as_slice(), draft),
+        Val::Map(entries) => put_entries(entries.as_slice(), draft),
         Val::BigMap { place, .. } => put_place(*place, draft),
-        Val::Contract(_, _) | Val::Operation(_) => Ok(()),
+        Val::Contract(_, _) | Val::Operation(_) => put_nothing(v),
     }
 }
 
 #[cycle(writing)]
-fn put_items(items: &[Val], draft: &mut Draft) -> Result<(), NoMemory>
-    ensures added { OnOk result (draft.new.added ≡ draft.old.added ++ flat_map spell items.now) }
+fn put_items(tag: u8, items: &[Val], draft: &mut Draft) -> Result<(), NoMemory>
+    ensures added { OnOk result (draft.new.added ≡ draft.old.added
+        ++ tag ∷ (word (length items.now) ++ flat_map spell items.now)) }
+    ensures lawful { OnOk result (IsTrue (list_all is_lawful items.now)) }
     ensures before { draft.new.before ≡ draft.old.before }
 {
+    put_head(tag, items.len(), draft)?;
     for item in items {
         put(item, draft)?;
     }
@@ -104,13 +100,23 @@ fn put_items(items: &[Val], draft: &mut Draft) -> Result<(), NoMemory>
 #[cycle(writing)]
 fn put_entries(entries: &[(Val, Val)], draft: &mut Draft) -> Result<(), NoMemory>
     ensures added { OnOk result (draft.new.added ≡ draft.old.added
-        ++ flat_map spell_entry entries.now) }
+        ++ 17 ∷ (word (length entries.now) ++ flat_map spell_entry entries.now)) }
+    ensures lawful { OnOk result (IsTrue (list_all is_lawful_entry entries.now)) }
     ensures before { draft.new.before ≡ draft.old.before }
 {
+    put_head(17, entries.len(), draft)?;
     for entry in entries {
         put(&entry.0, draft)?;
         put(&entry.1, draft)?;
     }
+    Ok(())
+}
+
+// A plain value has neither in it.
+fn put_nothing(v: &Val) -> Result<(), NoMemory>
+    ensures { OnOk result (IsTrue (is_lawful v.now)) }
+{
+    leaves_are_lawful(v);
     Ok(())
 }
 

@@ -10,7 +10,7 @@ use Rattle.value_core.specs.Layer.{parts_of}
 use Rattle.value_core.specs.Sound.{is_plain, is_sound_level, is_settled_level}
 use Rattle.value_core.proofs.Levels.{by_level-roll}
 use Rattle.value_core.proofs.Everywhere.{everywhere-roll}
-use Rattle.value_codec.proofs.Levels.{both_true}
+use Rattle.value_core.proofs.Bools.{both_true}
 use Rattle.value_codec.proofs.tests.pair_of.Goals as goal
 
 plain_int : (n : ℤ) → is_plain (variant.Int n) ≡ true

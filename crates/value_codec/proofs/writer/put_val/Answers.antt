@@ -9,9 +9,9 @@ use Rattle.value_codec.specs.Spelling.{IsSpelt}
 use Rattle.value_codec.proofs.Levels.{plain_tags}
 use Rattle.value_codec.proofs.writer.put_val.Goals as goal
 
-spelt : {E : Type 0} (r : Result (Unit {0}) E) (v : Val) → IsTrue (is_lawful v) → IsTrue (is_plain v) → depth_of v ≤ 128 → OnOk r (IsSpelt 18 128 v)
+spelt : {E : Type 0} (r : Result (Unit {0}) E) (v : Val) → OnOk r (IsTrue (is_lawful v)) → IsTrue (is_plain v) → depth_of v ≤ 128 → OnOk r (IsSpelt 18 128 v)
 spelt (Ok u) v leaves plain deep = record { leaves = leaves; plain = plain; tags = plain_tags v plain; deep = deep }
 spelt (Err e) v leaves plain deep = tt
 
 pub returns-clause-spelt : goal.returns-clause-spelt
-returns-clause-spelt c = spelt c.put.result c.args.v.now c.leaves_are_lawful.ensures c.requires.plain c.requires.deep
+returns-clause-spelt c = spelt c.put.result c.args.v.now c.put.ensures.lawful c.requires.plain c.requires.deep
