@@ -66,9 +66,37 @@ fn a_text_of_131071_bytes_is_read_and_written(rt: HostRuntime) -> Result<(), Fai
 }
 
 #[test]
+fn values_at_their_limits_are_read_and_written(rt: HostRuntime) -> Result<(), Fail> {
+    let mut greatest = [0xff; 17];
+    greatest[..2].copy_from_slice(&[0x03, 0x7f]);
+    let mut least = [0; 17];
+    least[..2].copy_from_slice(&[0x03, 0x80]);
+    least[16] = 1;
+    let limits: [&[u8]; 4] = [
+        // 2^127 - 1, and as far below zero
+        &greatest,
+        &least,
+        // 2^63 - 1 millionths
+        &[0x05, 0x7f, 0xff, 0xff, 0xff, 0xff, 0xff, 0xff, 0xff],
+        // the last place of a big map
+        &[0x12, 15],
+    ];
+    for bytes in limits {
+        assert_eq!(rt; written_again(rt.alloc(), bytes)?.as_slice(), bytes);
+    }
+    Ok(())
+}
+
+#[test]
 fn the_first_fault_is_told_at_its_place(rt: HostRuntime) -> Result<(), Fail> {
     let deep = vec![in rt.alloc(); 0x0b; 129]?;
-    let faults: [(&[u8], usize); 8] = [
+    let mut beyond = [0; 17];
+    beyond[..2].copy_from_slice(&[0x03, 0x80]);
+    let faults: [(&[u8], usize); 10] = [
+        // -2^127
+        (&beyond, 1),
+        // 2^63 millionths
+        (&[0x05, 0x80, 0, 0, 0, 0, 0, 0, 0], 1),
         // cut by one byte, the text is told at the first of its bytes
         (&SPELT[..24], 23),
         // no tag
