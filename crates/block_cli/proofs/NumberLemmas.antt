@@ -1,5 +1,5 @@
--- Words that spell numbers: a number has one spelling, which is what `parse` reads of a word without a sign and a leading zero.
-use Rattle.std.proofs.Common.{◌≡◌, ◌≢◌, ℕ, ◌^◌, ◌≤◌, ◌<◌, Bool, true, false, List, length, get_or, Option, Some, None, Result, Ok, Err, refl, sym, ap, subst, ◌∙◌, arith, inl, inr, lit≤}
+-- Words that spell numbers: a number has one spelling, which is a decimal, and is what `parse` reads of a word without a sign and a leading zero.
+use Rattle.std.proofs.Common.{◌≡◌, ◌≢◌, ℕ, ◌^◌, ◌≤◌, ◌<◌, Bool, true, false, List, length, get_or, Option, Some, None, Result, Ok, Err, refl, sym, ap, subst, ◌∙◌, arith, inl, inr}
 use Rattle.std.specs.Prelude.{nat_le, nat_lt, ◌==◌, ◌&&◌, ◌||◌, ◌⊎◌, if◌then◌else◌}
 use Rattle.std.specs.Option.{SomeIff}
 use Rattle.std.specs.Result.{result_ok}
@@ -11,7 +11,7 @@ use Rattle.std.proofs.lemmas.List.{get_or_past}
 use Rattle.std.proofs.lemmas.Slice.Eq.{bytes_eq-Decides}
 use Rattle.std.proofs.lemmas.Str.Parse.{IsNumeralModel, parse_plain, not_in_digits}
 use Rattle.std.proofs.lemmas.Fmt.{decimal_is_IsNumeral, decimal-digits_value, decimal_digit, first_decimal}
-use Rattle.block_cli.specs.Numbers.{number_of, most_number, NumbersHaveOneSpelling}
+use Rattle.block_cli.specs.Numbers.{number_of, most_number, NumbersHaveOneSpelling, IsDecimal, NumbersAreDecimals}
 use Rattle.block_cli.specs.Inside.{begins_otherwise}
 
 -- digits and their value are std's own words
@@ -77,18 +77,38 @@ signed_is_none word plus = no_number (number_of 0 most_number word) (λ n e.
     let m = numeral word n e in
     not_in_digits own word 43 m.digits.1 (λ r. omega arith) 0 m.digits.0 plus)
 
+-- the spelling of a number begins with 0 only where it is `0`
+zero_is_alone : (n : ℕ) → n < 2 ^ 64 → get_or (decimal n) 0 0 ≡ 48 → length (decimal n) ≡ 1
+zero_is_alone n small first =
+    elim (cases_eq n 0) [
+      | inl none ↦ ap length (ap decimal none ∙ decimal_digit 0 (omega arith))
+      | inr some ↦ let more : 48 < get_or (decimal n) 0 0 = first_decimal n (omega arith) small in absurd (omega arith)
+    ]
+
 pub zero_first_is_none : (word : List ℕ) → get_or word 0 0 ≡ 48 → 1 < length word → number_of 0 most_number word ≡ None
 zero_first_is_none word zero long = no_number (number_of 0 most_number word) (λ n e.
     let m = numeral word n e in
-    let first : get_or (decimal n) 0 0 ≡ 48 = ap (λ (w : List ℕ). get_or w 0 0) (sym m.is) ∙ zero in
-    elim (cases_eq n 0) [
-      | inl none ↦
-          let one : length word ≡ 1 = ap length (m.is ∙ ap decimal none ∙ decimal_digit 0 (omega arith)) in
-          omega arith
-      | inr some ↦
-          let more : 48 < get_or (decimal n) 0 0 = first_decimal n (omega arith) m.small in
-          omega arith
-    ])
+    let alone : length (decimal n) ≡ 1 = zero_is_alone n m.small (ap (λ (w : List ℕ). get_or w 0 0) (sym m.is) ∙ zero) in
+    let one : length word ≡ 1 = ap length m.is ∙ alone in
+    omega arith)
+
+-- ---- words that spell numbers are decimals
+
+is_decimal : (n : ℕ) → n < 2 ^ 64 → IsDecimal (decimal n)
+is_decimal n small = record { digits = (decimal_is_IsNumeral n small).0; zero = zero_is_alone n small }
+
+pub are_decimals : NumbersAreDecimals
+are_decimals low high n word most = (
+  λ e.
+      let s = spelt low high n word e in
+      let small : n < 2 ^ 64 = let le = s.2 in omega arith in
+      (subst IsDecimal (sym s.0) (is_decimal n small), ap (digits_value 10) s.0 ∙ (decimal_is_IsNumeral n small).1, s.1, s.2),
+  λ p.
+      let value : digits_value 10 word ≡ n = p.1 in
+      let small : digits_value 10 word < 2 ^ 64 = let le = p.3 in omega arith in
+      let is : decimal (digits_value 10 word) ≡ word = decimal-digits_value own word p.0.digits.1 p.0.digits.0 p.0.zero small in
+      read low high n word most (sym is ∙ ap decimal value) p.2 p.3,
+)
 
 -- ---- what `parse` reads
 
@@ -112,10 +132,10 @@ module _ {E : Type 0} (word : List ℕ) (r : Result ℕ E) (parses : ParsesUnsig
 
 -- ---- narrower bounds
 
-pub bounded_is : (low high n : ℕ) (word : List ℕ) → high ≤ most_number → number_of 0 most_number word ≡ Some n → low ≤ n → n ≤ high → number_of low high word ≡ Some n
+bounded_is : (low high n : ℕ) (word : List ℕ) → high ≤ most_number → number_of 0 most_number word ≡ Some n → low ≤ n → n ≤ high → number_of low high word ≡ Some n
 bounded_is low high n word most e at_least at_most = read low high n word most (spelt 0 most_number n word e).0 at_least at_most
 
-pub unbounded_is_none : (low high n : ℕ) (word : List ℕ) → high ≤ most_number → number_of 0 most_number word ≡ Some n → ((low ≤ n) × (n ≤ high) → ⊥) → number_of low high word ≡ None
+unbounded_is_none : (low high n : ℕ) (word : List ℕ) → high ≤ most_number → number_of 0 most_number word ≡ Some n → ((low ≤ n) × (n ≤ high) → ⊥) → number_of low high word ≡ None
 unbounded_is_none low high n word most e out = no_number (number_of low high word) (λ m f.
     let s = spelt low high m word f in
     let whole : number_of 0 most_number word ≡ Some m = read 0 most_number m word (omega arith) s.0 (omega arith) (let le = s.2 in omega arith) in
@@ -128,10 +148,10 @@ none_is_none low high word most e = no_number (number_of low high word) (λ m f.
     let whole : number_of 0 most_number word ≡ Some m = read 0 most_number m word (omega arith) s.0 (omega arith) (let le = s.2 in omega arith) in
     let none : None ≡ Some m = sym e ∙ whole in cc)
 
--- the number of workers
-pub workers_are : (word : List ℕ) (n : ℕ) (o : Option ℕ) → number_of 0 most_number word ≡ Some n → SomeIff o ((1 ≤ n) × (n ≤ 64)) n → o ≡ number_of 1 64 word
-workers_are word n None e out = sym (unbounded_is_none 1 64 n word (lit≤ tt) e out)
-workers_are word n (Some m) e within = ap (λ (k : ℕ). Some k) within.1 ∙ sym (bounded_is 1 64 n word (lit≤ tt) e within.0.0 within.0.1)
+-- the number, where it is within the bounds
+pub bounded : (low high n : ℕ) (word : List ℕ) (o : Option ℕ) → high ≤ most_number → number_of 0 most_number word ≡ Some n → SomeIff o ((low ≤ n) × (n ≤ high)) n → o ≡ number_of low high word
+bounded low high n word None most e out = sym (unbounded_is_none low high n word most e out)
+bounded low high n word (Some m) most e within = ap (λ (k : ℕ). Some k) within.1 ∙ sym (bounded_is low high n word most e within.0.0 within.0.1)
 
 -- ---- words that begin otherwise than numbers do
 

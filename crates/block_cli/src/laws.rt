@@ -1,5 +1,5 @@
 //! What is true of the definitions.
-ghost use Rattle.block_cli.specs.Numbers.{NumbersHaveOneSpelling};
+ghost use Rattle.block_cli.specs.Numbers.{NumbersAreDecimals, NumbersHaveOneSpelling};
 ghost use Rattle.block_cli.specs.Meaning.{AnswersWriteAllOrNothing, ContentsHaveAnAnswer};
 ghost use Rattle.block_cli.specs.Verdict.{AcceptedBlocksLeaveLedgers, AcceptedBytesAreTrueBlocks, HaveAVerdict, HaveOneVerdict};
 
@@ -7,9 +7,10 @@ use block_codec::blocks_have_one_spelling;
 use ledger_state::ledgers_have_one_spelling;
 use plain_transfers::supply_is_kept;
 
-/// A number is spelt as a word in one way.
+/// A number is spelt as a word in one way: `0`, or digits of which the first isn't 0.
 pub fn numbers_have_one_spelling()
-    ensures { NumbersHaveOneSpelling }
+    ensures one { NumbersHaveOneSpelling }
+    ensures decimal { NumbersAreDecimals }
 {}
 
 /// An answer writes each file of its command, or none.

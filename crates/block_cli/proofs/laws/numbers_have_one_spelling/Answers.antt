@@ -1,5 +1,8 @@
-use Rattle.block_cli.proofs.NumberLemmas.{one_spelling}
+use Rattle.block_cli.proofs.NumberLemmas.{are_decimals, one_spelling}
 use Rattle.block_cli.proofs.laws.numbers_have_one_spelling.Goals as goal
 
-pub returns : goal.returns
-returns c = one_spelling
+pub returns-clause-one : goal.returns-clause-one
+returns-clause-one c = one_spelling
+
+pub returns-clause-decimal : goal.returns-clause-decimal
+returns-clause-decimal c = are_decimals
