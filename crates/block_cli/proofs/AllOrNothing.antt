@@ -5,9 +5,9 @@ use Rattle.byte_fields.specs.Stops as stops
 use Rattle.edge_io.specs.Outside.{Outside}
 use Rattle.ledger_state.specs.Ledger.{Ledger}
 use Rattle.ledger_state.specs.Reading.{ledger_of}
-use Rattle.block_cli.specs.Commands.{Name, Command, Validate}
+use Rattle.block_cli.specs.Commands.{FileName, Command, Validate}
 use Rattle.block_cli.specs.Report.{malformed, not_yet}
-use Rattle.block_cli.specs.Answers.{File, Answer, bad_input, first_too_long, limited_by, limited, WritesUnder}
+use Rattle.block_cli.specs.Answer.{File, Answer, bad_input, first_too_long, limited_by, limited, WritesUnder}
 use Rattle.block_cli.specs.Verdict.{Verdict, Refused, Accepted}
 use Rattle.block_cli.specs.Validating.{answer_to, ValidatesOn}
 use Rattle.block_cli.specs.Meaning.{Means}
@@ -17,11 +17,11 @@ use Rattle.block_cli.specs.Runs.{Answered}
 is_one : (c : Command) (answer one : Answer) → answer ≡ one → WritesUnder c one.status one.written → WritesUnder c answer.status answer.written
 is_one c answer one e h = subst (λ (a : Answer). WritesUnder c a.status a.written) (sym e) h
 
-by_verdict : (state block next : Name) (workers : ℕ) (v : Verdict) → WritesUnder (Validate state block next workers) (answer_to next v).status (answer_to next v).written
+by_verdict : (state block next : FileName) (workers : ℕ) (v : Verdict) → WritesUnder (Validate state block next workers) (answer_to next v).status (answer_to next v).written
 by_verdict state block next workers (Refused why) = refl
 by_verdict state block next workers (Accepted s) = refl
 
-by_state : (state block next : Name) (workers : ℕ) (read : Result Ledger Stop) (bytes : List ℕ) (answer : Answer) → ValidatesOn state next read bytes answer → WritesUnder (Validate state block next workers) answer.status answer.written
+by_state : (state block next : FileName) (workers : ℕ) (read : Result Ledger Stop) (bytes : List ℕ) (answer : Answer) → ValidatesOn state next read bytes answer → WritesUnder (Validate state block next workers) answer.status answer.written
 by_state state block next workers (Ok s) bytes answer (v, is, e) = is_one (Validate state block next workers) answer (answer_to next v) e (by_verdict state block next workers v)
 by_state state block next workers (Err (stops.Stopped stops.Faulty p)) bytes answer e = is_one (Validate state block next workers) answer (bad_input state (malformed p)) e refl
 by_state state block next workers (Err (stops.Stopped stops.NotYet p)) bytes answer e = is_one (Validate state block next workers) answer (bad_input state (not_yet p)) e refl

@@ -6,8 +6,8 @@ use Rattle.std.specs.FinMap.{get}
 use Rattle.std.proofs.lemmas.List.{map-append}
 use Rattle.std.proofs.lemmas.List.Elements.{Contains-append_right}
 use Rattle.edge_io.specs.Outside.{Held, Outside}
-use Rattle.block_cli.specs.Commands.{Name, Command, command_of, reads, writes}
-use Rattle.block_cli.specs.Answers.{File, Answer, limited, WritesUnder}
+use Rattle.block_cli.specs.Commands.{FileName, Command, command_of, reads, writes}
+use Rattle.block_cli.specs.Answer.{File, Answer, limited, WritesUnder}
 use Rattle.block_cli.specs.Meaning.{Means}
 use Rattle.block_cli.specs.Seen.{Seen, StopsWriting}
 use Rattle.block_cli.specs.Inputs.{Reaches}
@@ -28,22 +28,22 @@ same_some (x ∷ xs) (y ∷ ys) e =
     let tail : map (λ (b : List ℕ). Some b) xs ≡ map (λ (b : List ℕ). Some b) ys = cc in
     ap (λ (z : List ℕ). z ∷ xs) head ∙ ap (λ zs. y ∷ zs) (same_some xs ys tail)
 
-first_of_rest : (x : Name) (xs : List Name) → Contains (x ∷ xs) x
+first_of_rest : (x : FileName) (xs : List FileName) → Contains (x ∷ xs) x
 first_of_rest x xs = (0, omega arith, refl)
 
-is_there : (names before after : List Name) (name : Name) → names ≡ before ++ name ∷ after → Contains names name
-is_there names before after name order = subst (λ (l : List Name). Contains l name) (sym order) (Contains-append_right before (name ∷ after) name (first_of_rest name after))
+is_there : (names before after : List FileName) (name : FileName) → names ≡ before ++ name ∷ after → Contains names name
+is_there names before after name order = subst (λ (l : List FileName). Contains l name) (sym order) (Contains-append_right before (name ∷ after) name (first_of_rest name after))
 
-reached : (names : List Name) (name : Name) (seen : Outside) → Reaches names name seen → Contains names name
+reached : (names : List FileName) (name : FileName) (seen : Outside) → Reaches names name seen → Contains names name
 reached names name seen r = is_there names r.before r.after name r.order
 
 -- ---- what was read and written
 
-told_is : (told : Option Held) (held : Held) (names : List Name) (contents : List (List ℕ)) → told ≡ Some held → IfSome told (λ h. map (λ (n : Name). get h n) names ≡ map (λ (b : List ℕ). Some b) contents) → map (λ (n : Name). get held n) names ≡ map (λ (b : List ℕ). Some b) contents
-told_is told held names contents e h = subst (λ (o : Option Held). IfSome o (λ h. map (λ (n : Name). get h n) names ≡ map (λ (b : List ℕ). Some b) contents)) e h
+told_is : (told : Option Held) (held : Held) (names : List FileName) (contents : List (List ℕ)) → told ≡ Some held → IfSome told (λ h. map (λ (n : FileName). get h n) names ≡ map (λ (b : List ℕ). Some b) contents) → map (λ (n : FileName). get held n) names ≡ map (λ (b : List ℕ). Some b) contents
+told_is told held names contents e h = subst (λ (o : Option Held). IfSome o (λ h. map (λ (n : FileName). get h n) names ≡ map (λ (b : List ℕ). Some b) contents)) e h
 
 -- a file that couldn't be written is one of the command
-is_written : (c : Command) (answer : Answer) (name : Name) (old new : Outside) → answer.status ≡ Done → WritesUnder c answer.status answer.written → StopsWriting answer.written name old new → Contains (writes c) name
+is_written : (c : Command) (answer : Answer) (name : FileName) (old new : Outside) → answer.status ≡ Done → WritesUnder c answer.status answer.written → StopsWriting answer.written name old new → Contains (writes c) name
 is_written c answer name old new done under s =
     let all : map (λ (file : File). file.0) answer.written ≡ writes c = subst (λ (status : Status). WritesUnder c status answer.written) done under in
     let here : map (λ (file : File). file.0) answer.written ≡ map (λ (file : File). file.0) s.before ++ name ∷ map (λ (file : File). file.0) s.after =
@@ -51,7 +51,7 @@ is_written c answer name old new done under s =
     is_there (writes c) (map (λ (file : File). file.0) s.before) (map (λ (file : File). file.0) s.after) name (sym all ∙ here)
 
 module _ (c : Command) (held : Held) (contents : List (List ℕ)) (old new : Seen) (told : old.files.told ≡ Some held)
-    (holds : map (λ (name : Name). get held name) (reads c) ≡ map (λ (bytes : List ℕ). Some bytes) contents) (quiet : AllQuiet c old new) where
+    (holds : map (λ (name : FileName). get held name) (reads c) ≡ map (λ (bytes : List ℕ). Some bytes) contents) (quiet : AllQuiet c old new) where
   -- the status is that of an answer that is meant
   Meant : Status → Type 0
   Meant status = (answer : Answer) × Means c contents answer × (status ≡ (limited answer).status)

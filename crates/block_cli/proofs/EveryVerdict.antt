@@ -21,9 +21,9 @@ use Rattle.ledger_state.specs.Ledger.{Ledger}
 use Rattle.ledger_state.specs.Reading.{ledger_of}
 use Rattle.block_codec.specs.Spelling.{spelling}
 use Rattle.block_codec.specs.Reading.{block_of}
-use Rattle.block_cli.specs.Commands.{Name, Validate}
+use Rattle.block_cli.specs.Commands.{FileName, Validate}
 use Rattle.block_cli.specs.Report.{malformed, not_yet}
-use Rattle.block_cli.specs.Answers.{Answer, bad_input}
+use Rattle.block_cli.specs.Answer.{Answer, bad_input}
 use Rattle.block_cli.specs.Validating.{answer_to, ValidatesOn}
 use Rattle.block_cli.specs.Meaning.{ContentsHaveAnAnswer}
 use Rattle.block_codec.specs.Block.{BlockView, IsBlock}
@@ -174,23 +174,24 @@ module _ (s : Ledger) (b : BlockView) (lawful : IsBlock b) where
 
 -- ---- bytes, and the contents of files
 
-abbrev Reads : Type 0
-Reads = (bytes : List ℕ) (b : BlockView) → IsBytes bytes → block_of bytes ≡ Ok b → IsBlock b × (bytes ≡ spelling b)
+-- what is read as a block is one, by its spelling
+abbrev pub BlocksAreSpelt : Type 0
+BlocksAreSpelt = (bytes : List ℕ) (b : BlockView) → IsBytes bytes → block_of bytes ≡ Ok b → IsBlock b × (bytes ≡ spelling b)
 
-verdict_of_read : Reads → (s : Ledger) (bytes : List ℕ) → IsBytes bytes → (r : Result BlockView Stop) → block_of bytes ≡ r → (v : Verdict) × IsVerdictOf s r v
+verdict_of_read : BlocksAreSpelt → (s : Ledger) (bytes : List ℕ) → IsBytes bytes → (r : Result BlockView Stop) → block_of bytes ≡ r → (v : Verdict) × IsVerdictOf s r v
 verdict_of_read reads_block s bytes fits (Ok b) read = has_verdict s b (reads_block bytes b fits read).0
 verdict_of_read reads_block s bytes fits (Err (stops.Stopped stops.Faulty p)) read = (Refused (Malformed p), refl)
 verdict_of_read reads_block s bytes fits (Err (stops.Stopped stops.NotYet p)) read = (Refused (NotYet p), refl)
 
-pub verdict_there : Reads → HaveAVerdict
+pub verdict_there : BlocksAreSpelt → HaveAVerdict
 verdict_there reads_block s bytes fits = verdict_of_read reads_block s bytes fits (block_of bytes) refl
 
-by_ledger : Reads → (state next : Name) (bytes : List ℕ) → IsBytes bytes → (r : Result Ledger Stop) → (answer : Answer) × ValidatesOn state next r bytes answer
+by_ledger : BlocksAreSpelt → (state next : FileName) (bytes : List ℕ) → IsBytes bytes → (r : Result Ledger Stop) → (answer : Answer) × ValidatesOn state next r bytes answer
 by_ledger reads_block state next bytes fits (Ok s) = let v = verdict_there reads_block s bytes fits in (answer_to next v.0, (v.0, v.1, refl))
 by_ledger reads_block state next bytes fits (Err (stops.Stopped stops.Faulty p)) = (bad_input state (malformed p), refl)
 by_ledger reads_block state next bytes fits (Err (stops.Stopped stops.NotYet p)) = (bad_input state (not_yet p), refl)
 
-pub answer_there : Reads → ContentsHaveAnAnswer
+pub answer_there : BlocksAreSpelt → ContentsHaveAnAnswer
 answer_there reads_block (Validate state block next workers) (spelt ∷ bytes ∷ []) all fits = by_ledger reads_block state next bytes fits.1.0 (ledger_of spelt)
 answer_there reads_block (Validate state block next workers) [] all fits = absurd (omega arith)
 answer_there reads_block (Validate state block next workers) (x ∷ []) all fits = absurd (omega arith)

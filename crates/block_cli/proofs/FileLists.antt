@@ -14,9 +14,9 @@ use Rattle.edge_io.specs.Outside.{Held, Outside, Rose, GoesOn, HasRoom, ReadsFil
 use Rattle.edge_io.specs.declared.files.ReadEnd.{ReadEnd}
 use Rattle.edge_io.specs.declared.files.ReadEnd.TheVariants as ends
 use Rattle.edge_io.specs.declared.files.Failed.{Failed}
-use Rattle.block_cli.specs.Commands.{Name}
+use Rattle.block_cli.specs.Commands.{FileName}
 use Rattle.block_cli.specs.declared.answer.File.{File as Made}
-use Rattle.block_cli.specs.Answers.{File, first_too_long, held_after}
+use Rattle.block_cli.specs.Answer.{File, first_too_long, held_after}
 use Rattle.block_cli.specs.Seen.{Written, StopsWriting}
 use Rattle.block_cli.specs.Inputs.{AreRead, Reaches, StopsAtLong, StopsAtFault}
 use Rattle.block_cli.specs.Inside.{bytes_in, file_in, files_in, HaveRoom}
@@ -72,23 +72,23 @@ goes_further a b c p q = record {
 
 -- ---- reading
 
-none_read : (told : Option Held) → IfSome told (λ held. map (λ (name : Name). get held name) [] ≡ map (λ (bytes : List ℕ). Some bytes) [])
+none_read : (told : Option Held) → IfSome told (λ held. map (λ (name : FileName). get held name) [] ≡ map (λ (bytes : List ℕ). Some bytes) [])
 none_read None = tt
 none_read (Some held) = refl
 
 pub nothing_read : (old : Outside) → AreRead [] [] old
 nothing_read old = record { count = refl; short = λ k d lt. absurd (omega arith); told = none_read old.told }
 
-told_more : (told : Option Held) (before : List Name) (contents : List (List ℕ)) (name : Name) (bytes : List ℕ) →
-    IfSome told (λ held. map (λ (n : Name). get held n) before ≡ map (λ (b : List ℕ). Some b) contents) → IfSome told (λ held. get held name ≡ Some bytes) →
-    IfSome told (λ held. map (λ (n : Name). get held n) (before ++ name ∷ []) ≡ map (λ (b : List ℕ). Some b) (contents ++ bytes ∷ []))
+told_more : (told : Option Held) (before : List FileName) (contents : List (List ℕ)) (name : FileName) (bytes : List ℕ) →
+    IfSome told (λ held. map (λ (n : FileName). get held n) before ≡ map (λ (b : List ℕ). Some b) contents) → IfSome told (λ held. get held name ≡ Some bytes) →
+    IfSome told (λ held. map (λ (n : FileName). get held n) (before ++ name ∷ []) ≡ map (λ (b : List ℕ). Some b) (contents ++ bytes ∷ []))
 told_more None before contents name bytes so_far here = tt
 told_more (Some held) before contents name bytes so_far here =
-    map-append (λ (n : Name). get held n) before (name ∷ [])
+    map-append (λ (n : FileName). get held n) before (name ∷ [])
     ∙ ap (λ l. l ++ get held name ∷ []) so_far ∙ ap (λ o. map (λ (b : List ℕ). Some b) contents ++ o ∷ []) here
     ∙ sym (map-append (λ (b : List ℕ). Some b) contents (bytes ∷ []))
 
-module _ (before : List Name) (contents : List (List ℕ)) (name : Name) (old mid new : Outside) (read : AreRead before contents old) (goes : GoesOn old mid) (same : mid.told ≡ old.told) where
+module _ (before : List FileName) (contents : List (List ℕ)) (name : FileName) (old mid new : Outside) (read : AreRead before contents old) (goes : GoesOn old mid) (same : mid.told ≡ old.told) where
   -- one more file is read whole
   pub read_more : (v : Vec ℕ) → ReadsFile mid name (Ok v) new → AreRead (before ++ name ∷ []) (contents ++ v.items ∷ []) old
   read_more v r = record {
@@ -97,7 +97,7 @@ module _ (before : List Name) (contents : List (List ℕ)) (name : Name) (old mi
     told = told_more old.told before contents name v.items read.told (subst (λ (told : Option Held). IfSome told (λ held. get held name ≡ Some v.items)) same r.bytes);
   }
 
-  module _ (names after : List Name) (order : names ≡ before ++ name ∷ after) where
+  module _ (names after : List FileName) (order : names ≡ before ++ name ∷ after) where
     reaches : Reaches names name old
     reaches = record { before = before; after = after; order = order; contents = contents; read = read }
 
@@ -112,7 +112,7 @@ module _ (before : List Name) (contents : List (List ℕ)) (name : Name) (old mi
     }
 
 -- one turn of the loop over names, which are seen by f
-module _ {A : Type 0} (items : List A) (f : A → Name) (i : ℕ) (d : A) (lt : i < length items) (contents : List (Vec ℕ)) (old mid new : Outside)
+module _ {A : Type 0} (items : List A) (f : A → FileName) (i : ℕ) (d : A) (lt : i < length items) (contents : List (Vec ℕ)) (old mid new : Outside)
     (goes : GoesOn old mid) (same : mid.told ≡ old.told) (read : AreRead (take i (map f items)) (bytes_in contents) old) where
   here : f (get_or items i d) ≡ get_or (map f items) i (f (get_or items i d))
   here = seen_at f items i (get_or items i d) lt (sym (get_or_default items i (get_or items i d) d lt))
@@ -123,7 +123,7 @@ module _ {A : Type 0} (items : List A) (f : A → Name) (i : ℕ) (d : A) (lt : 
       let names : take (i + 1) (map f items) ≡ take i (map f items) ++ name ∷ [] = one_more (map f items) i name (seen_within f items i lt) here in
       let bytes : bytes_in more ≡ bytes_in contents ++ v.items ∷ [] = ap bytes_in is ∙ map-append (λ (x : Vec ℕ). x.items) contents (v ∷ []) in
       let all : AreRead (take i (map f items) ++ name ∷ []) (bytes_in contents ++ v.items ∷ []) old = read_more (take i (map f items)) (bytes_in contents) name old mid new read goes same v r in
-      subst (λ (l : List Name). AreRead l (bytes_in more) old) (sym names) (subst (λ (l : List (List ℕ)). AreRead (take i (map f items) ++ name ∷ []) l old) (sym bytes) all)
+      subst (λ (l : List FileName). AreRead l (bytes_in more) old) (sym names) (subst (λ (l : List (List ℕ)). AreRead (take i (map f items) ++ name ∷ []) l old) (sym bytes) all)
 
   order : map f items ≡ take i (map f items) ++ f (get_or items i d) ∷ drop (suc i) (map f items)
   order = split_at (map f items) i (f (get_or items i d)) (seen_within f items i lt) here
@@ -170,16 +170,16 @@ after_one_more (Some held) mid new before file so_far now_is =
 pub written_more : (before : List File) (file : File) (old mid new : Outside) → Written before old mid → WritesFile mid file.0 file.1 (Ok tt) new → Written (before ++ file ∷ []) old new
 written_more before file old mid new so_far w = after_one_more old.told mid.told new.told before file so_far w.written
 
-others_by : (new : Option Held) (held : Held) (name : Name) → is_some new ≡ true → IfSome new (λ now. (q : Name) → q ≢ name → get now q ≡ get held q) → IsSomeAnd new (λ now. (q : Name) → q ≢ name → get now q ≡ get held q)
+others_by : (new : Option Held) (held : Held) (name : FileName) → is_some new ≡ true → IfSome new (λ now. (q : FileName) → q ≢ name → get now q ≡ get held q) → IsSomeAnd new (λ now. (q : FileName) → q ≢ name → get now q ≡ get held q)
 others_by None held name there h = absurd cc
 others_by (Some now) held name there h = h
 
-others_after : (old mid new : Option Held) (before : List File) (name : Name) → IfSome old (λ held. mid ≡ Some (held_after held before)) → is_some new ≡ is_some mid →
-    IfSome mid (λ held. IfSome new (λ now. (q : Name) → q ≢ name → get now q ≡ get held q)) → IfSome old (λ held. IsSomeAnd new (λ now. (q : Name) → q ≢ name → get now q ≡ get (held_after held before) q))
+others_after : (old mid new : Option Held) (before : List File) (name : FileName) → IfSome old (λ held. mid ≡ Some (held_after held before)) → is_some new ≡ is_some mid →
+    IfSome mid (λ held. IfSome new (λ now. (q : FileName) → q ≢ name → get now q ≡ get held q)) → IfSome old (λ held. IsSomeAnd new (λ now. (q : FileName) → q ≢ name → get now q ≡ get (held_after held before) q))
 others_after None mid new before name so_far tells others = tt
 others_after (Some held) mid new before name so_far tells others =
     others_by new (held_after held before) name (tells ∙ ap is_some so_far)
-    (subst (λ (o : Option Held). IfSome o (λ h. IfSome new (λ now. (q : Name) → q ≢ name → get now q ≡ get h q))) so_far others)
+    (subst (λ (o : Option Held). IfSome o (λ h. IfSome new (λ now. (q : FileName) → q ≢ name → get now q ≡ get h q))) so_far others)
 
 pub stops_writing : (before after files : List File) (file : File) (old mid new : Outside) (e : Failed) → files ≡ before ++ file ∷ after → GoesOn old mid → Written before old mid → WritesFile mid file.0 file.1 (Err e) new → StopsWriting files file.0 old new
 stops_writing before after files file old mid new e order goes so_far w = record {

@@ -18,6 +18,7 @@ use Rattle.plain_transfers.specs.Serial.{serial}
 use Rattle.plain_transfers.specs.Run.{IsPlain, run_all}
 use Rattle.block_cli.specs.Verdict.{Accepted, serial_run, state_after, IsTrueOn, IsVerdictOf, IsTrueBlock, LeavesLedger, AcceptedBytesAreTrueBlocks, AcceptedBlocksLeaveLedgers}
 use Rattle.block_cli.proofs.Sizes.{len-spelling}
+use Rattle.block_cli.proofs.EveryVerdict.{BlocksAreSpelt}
 
 -- ---- lists that are alike at every place
 
@@ -56,11 +57,9 @@ by_places s b t = (record { stands = t.stands; joins = t.joins; covered = t.cove
 
 -- ---- bytes
 
-abbrev Reads : Type 0
-Reads = (bytes : List ℕ) (b : BlockView) → IsBytes bytes → block_of bytes ≡ Ok b → IsBlock b × (bytes ≡ spelling b)
-
-abbrev ReadsAgain : Type 0
-ReadsAgain = (b : BlockView) → IsBlock b → block_of (spelling b) ≡ Ok b
+-- the spelling of a block is read as it
+abbrev SpeltBlocksAreRead : Type 0
+SpeltBlocksAreRead = (b : BlockView) → IsBlock b → block_of (spelling b) ≡ Ok b
 
 -- what accepted bytes are read as
 record AcceptedBlock (s after : Ledger) (bytes : List ℕ) : Type 0 where
@@ -74,7 +73,7 @@ accepted_as s after bytes (Ok b) read v = record { block = b; read = read; true_
 accepted_as s after bytes (Err (stops.Stopped stops.Faulty p)) read v = absurd cc
 accepted_as s after bytes (Err (stops.Stopped stops.NotYet p)) read v = absurd cc
 
-pub accepted_are_true : Reads → ReadsAgain → AcceptedBytesAreTrueBlocks
+pub accepted_are_true : BlocksAreSpelt → SpeltBlocksAreRead → AcceptedBytesAreTrueBlocks
 accepted_are_true reads again s after bytes fits = (
   (λ v.
       let a = accepted_as s after bytes (block_of bytes) refl v in
@@ -91,7 +90,7 @@ plain : (ops : List Transfer) → AllByRecursion IsTransfer ops → AllByRecursi
 plain [] all = tt
 plain (t ∷ ts) all = (record { source = all.0.source; dest = all.0.dest }, plain ts all.1)
 
-module _ (reads : Reads) (ledger_again : (s : Ledger) → IsLedger s → ledger_of (spelt s) ≡ Ok s)
+module _ (reads : BlocksAreSpelt) (ledger_again : (s : Ledger) → IsLedger s → ledger_of (spelt s) ≡ Ok s)
     (kept : (m : Balances) (ops : List Transfer) → AreBalances m → AllByRecursion IsPlain ops → supply (run_all m ops).balances ≡ supply m)
     (stay : (m : Balances) (ops : List Transfer) → AreBalances m → AllByRecursion IsPlain ops → AreBalances (run_all m ops).balances) where
   left_by : (s : Ledger) (b : BlockView) → IsLedger s → IsBlock b → length (spelt (state_after s b)) ≤ most_bytes → LeavesLedger s (state_after s b)

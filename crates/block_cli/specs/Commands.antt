@@ -6,19 +6,19 @@ use Rattle.std.specs.Str.{bytes_eq}
 use Rattle.block_cli.specs.Numbers.{workers_of}
 
 -- the name of a file
-abbrev pub Name : Type 0
-Name = List ℕ
+abbrev pub FileName : Type 0
+FileName = List ℕ
 
 -- a command with what its words name, in their order
 pub data Command : Type 0 where
-  Validate : Name → Name → Name → ℕ → Command
+  Validate : FileName → FileName → FileName → ℕ → Command
 
 -- the files that it reads, in the order in which it reads them
-abbrev pub reads : Command → List Name
+abbrev pub reads : Command → List FileName
 reads (Validate state block next workers) = state ∷ block ∷ []
 
 -- the files that it writes, in the order in which it writes them
-abbrev pub writes : Command → List Name
+abbrev pub writes : Command → List FileName
 writes (Validate state block next workers) = next ∷ []
 
 -- whether a run of it surely ends
@@ -26,7 +26,7 @@ abbrev pub SurelyEnds : Command → Type 0
 SurelyEnds (Validate state block next workers) = Unit {0}
 
 -- no name of a file is empty
-abbrev pub are_names : List Name → Bool
+abbrev pub are_names : List FileName → Bool
 are_names = list_all (λ name. not (length name == 0))
 
 -- STATE BLOCK NEXT WORKERS, where the block isn't written over

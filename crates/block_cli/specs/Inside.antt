@@ -7,13 +7,13 @@ use Rattle.block_cli.specs.declared.command.Command.TheVariants as asked
 use Rattle.block_cli.specs.declared.answer.File.{File as Made}
 use Rattle.block_cli.specs.declared.answer.Answer.{Answer as Given}
 use Rattle.block_cli.specs.declared.answer.Answer.TheVariants as given
-use Rattle.block_cli.specs.declared.input.Stop.{Stop}
-use Rattle.block_cli.specs.declared.input.Stop.TheVariants as stops
+use Rattle.block_cli.specs.declared.input.Unread.{Unread}
+use Rattle.block_cli.specs.declared.input.Unread.TheVariants as unread
 use Rattle.block_cli.specs.declared.status.Status.{Status}
 use Rattle.block_cli.specs.declared.status.Status.TheVariants.{Done, Refused, Usage, ReadFault, WriteFault, NoMemory, BadInput}
-use Rattle.block_cli.specs.Commands.{Name, Command, Validate}
+use Rattle.block_cli.specs.Commands.{FileName, Command, Validate}
 use Rattle.block_cli.specs.Report.{cannot_write_line}
-use Rattle.block_cli.specs.Answers.{File, Answer, done}
+use Rattle.block_cli.specs.Answer.{File, Answer, done}
 use Rattle.block_cli.specs.Inputs.{AreRead, StopsAtLong, StopsAtFault}
 use Rattle.block_cli.specs.Seen.{Seen, SameFiles, Written, StopsWriting, Prints, PrintsAll}
 use Rattle.block_cli.specs.Runs.{GivesUp}
@@ -47,11 +47,11 @@ begins_otherwise word = nat_lt 0 (length word) && ((slice_index word 0 == 43) ||
 -- ---- reading
 
 -- what reading files in order comes to
-abbrev pub ReadsAll : List Name → Outside → Result (Vec (Vec ℕ)) Stop → Outside → Type 0
+abbrev pub ReadsAll : List FileName → Outside → Result (Vec (Vec ℕ)) Unread → Outside → Type 0
 ReadsAll names old (Ok contents) new = AreRead names (bytes_in contents.items) old
-ReadsAll names old (Err stops.NoMemory) new = Unit {0}
-ReadsAll names old (Err (stops.CannotRead name)) new = StopsAtFault names name.now old new
-ReadsAll names old (Err (stops.TooLong name)) new = StopsAtLong names name.now old new
+ReadsAll names old (Err unread.NoMemory) new = Unit {0}
+ReadsAll names old (Err (unread.CannotRead name)) new = StopsAtFault names name.now old new
+ReadsAll names old (Err (unread.TooLong name)) new = StopsAtLong names name.now old new
 
 -- ---- writing
 
@@ -60,7 +60,7 @@ abbrev pub HaveRoom : List File → Outside → Type 0
 HaveRoom files seen = All (λ file. HasRoom seen file.0 (length file.1)) files
 
 -- what writing files in order comes to: all are written, or the first that couldn't be is named
-abbrev pub WritesAll : List File → Outside → Option Name → Outside → Type 0
+abbrev pub WritesAll : List File → Outside → Option FileName → Outside → Type 0
 WritesAll files old None new = Written files old new
 WritesAll files old (Some name) new = StopsWriting files name old new
 
@@ -95,16 +95,16 @@ pub record SavesUntold (answer : Answer) (old new : Seen) : Type 0 where
 -- one of its files couldn't be written
 pub record SavesPart (answer : Answer) (old new : Seen) : Type 0 where
   pub is : answer.status ≡ Done
-  pub name : Name
+  pub name : FileName
   pub stops : StopsWriting answer.written name old.files new.files
   pub printed : Prints old.sink (cannot_write_line name) new.sink
 
 -- by the status that it ends with
-abbrev pub Gives : Answer → Seen → Status → Seen → Type 0
-Gives answer old Done new = Saves answer old new
-Gives answer old Refused new = PrintsOnly answer Refused old new
-Gives answer old Usage new = ⊥
-Gives answer old ReadFault new = ⊥
-Gives answer old WriteFault new = SavesPart answer old new ⊎ SavesUntold answer old new
-Gives answer old NoMemory new = GivesUp old new
-Gives answer old BadInput new = PrintsOnly answer BadInput old new
+abbrev pub Delivers : Answer → Seen → Status → Seen → Type 0
+Delivers answer old Done new = Saves answer old new
+Delivers answer old Refused new = PrintsOnly answer Refused old new
+Delivers answer old Usage new = ⊥
+Delivers answer old ReadFault new = ⊥
+Delivers answer old WriteFault new = SavesPart answer old new ⊎ SavesUntold answer old new
+Delivers answer old NoMemory new = GivesUp old new
+Delivers answer old BadInput new = PrintsOnly answer BadInput old new

@@ -3,7 +3,7 @@ pub mod Numbers
 pub mod Commands
 pub mod Statuses
 pub mod Report
-pub mod Answers
+pub mod Answer
 pub mod Verdict
 pub mod Validating
 pub mod Meaning

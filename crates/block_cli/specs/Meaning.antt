@@ -3,7 +3,7 @@ use Rattle.std.specs.Prelude.{◌≡◌, ℕ, List, [], ◌∷◌, length}
 use Rattle.std.specs.List.{AllByRecursion}
 use Rattle.byte_fields.specs.Laws.{IsBytes}
 use Rattle.block_cli.specs.Commands.{Command, Validate, reads}
-use Rattle.block_cli.specs.Answers.{Answer, WritesUnder}
+use Rattle.block_cli.specs.Answer.{Answer, WritesUnder}
 use Rattle.block_cli.specs.Validating.{Validates}
 
 -- an answer to these contents, which stand in the order of the files

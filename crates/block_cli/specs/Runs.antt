@@ -1,9 +1,9 @@
 -- What a run of the program does, by its status; the same for every command.
 use Rattle.std.specs.Prelude.{◌≡◌, ℕ, List, Option, Some, None, ◌⊎◌}
 use Rattle.edge_io.specs.Outside.{Outside, Rose}
-use Rattle.block_cli.specs.Commands.{Name, Command, command_of, reads}
+use Rattle.block_cli.specs.Commands.{FileName, Command, command_of, reads}
 use Rattle.block_cli.specs.Report.{usage_line, cannot_read_line, cannot_write_line, memory_line}
-use Rattle.block_cli.specs.Answers.{Answer, limited, too_long}
+use Rattle.block_cli.specs.Answer.{Answer, limited, too_long}
 use Rattle.block_cli.specs.Meaning.{Means}
 use Rattle.block_cli.specs.Inputs.{AreRead, StopsAtLong, StopsAtFault}
 use Rattle.block_cli.specs.Seen.{Seen, SameFiles, Written, StopsWriting, Prints, PrintsAll}
@@ -21,7 +21,7 @@ pub record OfContents (c : Command) (answer : Answer) (old : Outside) : Type 0 w
 
 -- the answer to a file that is too long to be read
 pub record OfLongFile (c : Command) (answer : Answer) (old new : Outside) : Type 0 where
-  pub name : Name
+  pub name : FileName
   pub stops : StopsAtLong (reads c) name old new
   pub is : answer ≡ too_long name
 
@@ -53,7 +53,7 @@ pub record SaysUsage (status : Status) (old new : Seen) : Type 0 where
 
 -- 3: a file couldn't be read
 pub record FailsToRead (c : Command) (old new : Seen) : Type 0 where
-  pub name : Name
+  pub name : FileName
   pub stops : StopsAtFault (reads c) name old.files new.files
   pub same : SameFiles old.files new.files
   pub printed : Prints old.sink (cannot_read_line name) new.sink
@@ -63,7 +63,7 @@ pub record FailsToWrite (c : Command) (old new : Seen) : Type 0 where
   pub answer : Answer
   pub answered : Answered c answer old.files new.files
   pub status : answer.status ≡ Done
-  pub name : Name
+  pub name : FileName
   pub stops : StopsWriting answer.written name old.files new.files
   pub printed : Prints old.sink (cannot_write_line name) new.sink
 

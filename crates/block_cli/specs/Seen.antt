@@ -2,8 +2,8 @@
 use Rattle.std.specs.Prelude.{◌≡◌, ◌≢◌, ℕ, List, ◌∷◌, ◌++◌, length, Some, IfSome, IsSomeAnd, ◌⊎◌}
 use Rattle.std.specs.FinMap.{get}
 use Rattle.edge_io.specs.Outside.{Outside, Rose, Taken, TakesFirst}
-use Rattle.block_cli.specs.Commands.{Name}
-use Rattle.block_cli.specs.Answers.{File, held_after}
+use Rattle.block_cli.specs.Commands.{FileName}
+use Rattle.block_cli.specs.Answer.{File, held_after}
 
 -- what is seen from outside
 pub record Seen : Type 0 where
@@ -22,14 +22,14 @@ abbrev pub Written : List File → Outside → Outside → Type 0
 Written files old new = IfSome old.told (λ held. new.told ≡ Some (held_after held files))
 
 -- of these files one couldn't be written: those before it are written, and all others hold what they held
-pub record StopsWriting (files : List File) (name : Name) (old new : Outside) : Type 0 where
+pub record StopsWriting (files : List File) (name : FileName) (old new : Outside) : Type 0 where
   pub before : List File
   pub bytes : List ℕ
   pub after : List File
   pub order : files ≡ before ++ (name, bytes) ∷ after
   pub rose : Rose (old.write_faults name) (new.write_faults name)
   pub others : IfSome old.told (λ held. IsSomeAnd new.told (λ now.
-      (q : Name) → q ≢ name → get now q ≡ get (held_after held before) q))
+      (q : FileName) → q ≢ name → get now q ≡ get (held_after held before) q))
 
 -- a beginning of the text was taken: all of it, unless the sink's count rose
 pub record Prints (old : Taken) (text : List ℕ) (new : Taken) : Type 0 where

@@ -23,7 +23,7 @@ pub data Verdict : Type 0 where
   Refused : Refusal → Verdict
   Accepted : Ledger → Verdict
 
--- its parent is the state's digest, its level the next one, its time not before the state's
+-- its parent is the state's digest, its level the next one, its `now` not before the state's
 pub record StandsOn (s : Ledger) (b : BlockView) : Type 0 where
   pub parent : b.parent ≡ digest_of s
   pub level : b.level ≡ s.level + 1

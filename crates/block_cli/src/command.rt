@@ -15,9 +15,13 @@ use std::alloc::{AllocError, Global};
 pub enum Command<'a> {
     /// Judges a block on a state, and writes the next state.
     Validate {
+        /// The name of the file that holds the state, not empty; so are the two below.
         state: &'a str,
+        /// The name of the file that holds the block.
         block: &'a str,
+        /// The name under which the next state is written, not the block's.
         next: &'a str,
+        /// How many may work on it, from 1 to 64. Today one does.
         workers: Workers,
     },
 }

@@ -2,11 +2,11 @@
 //! writes the next state or refuses the block.
 //!
 //! - `laws`: what is true of the definitions. `run`: the top call; begin there.
-//! - `words`: which words ask for a command. `command`: the commands, what each reads, and its answer.
+//! - `words`: which words ask for a command. `command`: the commands, what each reads, its answer.
 //! - `input`: reading the files of a command. `answer`, `output`: what is written and printed.
 //! - `validate`: the answer to the bytes of a state and of a block, of the command of that name.
 //! - `verdict`: what a block is worth on a state. `replay`: its operations, run again against what
-//!   it publishes of them. `refusal`: why it is refused. `next`: the state after it, with its digest.
+//!   it publishes of them. `refusal`: why it is refused. `next`: the state after it, and its digest.
 //! - `report`: every line that is printed, over `print`. `status`: how a run ends.
 //! - `start`: the words of the process.
 //!

@@ -9,7 +9,9 @@ use std::alloc::{AllocError, Global};
 /// A state with its digest, which is taken once.
 #[derive(Drop)]
 pub struct Next {
+    /// The state.
     pub state: State,
+    /// Its digest.
     pub digest: [u8; 32],
     ghost digested: { digest ≡ digest_of state },
 }

@@ -2,9 +2,9 @@
 ghost use Rattle.std.specs.Prelude.{◌≡◌, OnOk};
 ghost use Rattle.std.specs.Option.{option_map};
 ghost use Rattle.edge_io.specs.Outside.{GoesOn};
-ghost use Rattle.block_cli.specs.Answers.{done, limited, first_too_long};
+ghost use Rattle.block_cli.specs.Answer.{done, limited, first_too_long};
 ghost use Rattle.block_cli.specs.Seen.{seen_of};
-ghost use Rattle.block_cli.specs.Inside.{answer_in, files_in, Gives, HaveRoom, WritesAll};
+ghost use Rattle.block_cli.specs.Inside.{answer_in, files_in, Delivers, HaveRoom, WritesAll};
 
 use crate::answer::{Answer, File};
 use crate::print::print;
@@ -64,7 +64,7 @@ fn save<F: Files, K: Sink>(
     files: &mut F,
     out: &mut K,
 ) -> Status
-    ensures { Gives (done text.now (files_in written.now))
+    ensures { Delivers (done text.now (files_in written.now))
         (seen_of (F.seen files.old) (K.seen out.old)) result
         (seen_of (F.seen files.new) (K.seen out.new)) }
 {
@@ -87,13 +87,13 @@ fn save<F: Files, K: Sink>(
 }
 
 /// Does what an answer says, unless a file that it writes is too long.
-pub fn give<F: Files, K: Sink>(
+pub fn deliver<F: Files, K: Sink>(
     alloc: Global,
     answer: &Answer<'_>,
     files: &mut F,
     out: &mut K,
 ) -> Status
-    ensures { Gives (limited (answer_in answer.now))
+    ensures { Delivers (limited (answer_in answer.now))
         (seen_of (F.seen files.old) (K.seen out.old)) result
         (seen_of (F.seen files.new) (K.seen out.new)) }
 {

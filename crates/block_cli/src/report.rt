@@ -13,8 +13,9 @@ use ledger_state::State;
 use std::alloc::{AllocError, Global};
 use value_core::Address;
 
-const USAGE: &[u8] =
-    b"usage: compile SRC OUT | check CODE | genesis TEXT STATE | mine STATE OPS BLOCK NEXT WORKERS | validate STATE BLOCK NEXT WORKERS | show STATE | load NUMBER COUNT WORKERS\n";
+const USAGE: &[u8] = b"usage: compile SRC OUT | check CODE | genesis TEXT STATE | \
+    mine STATE OPS BLOCK NEXT WORKERS | validate STATE BLOCK NEXT WORKERS | show STATE | \
+    load NUMBER COUNT WORKERS\n";
 
 /// Prints three texts in a row, under a status that stays whatever the sink does.
 fn tell<K: Sink>(out: &mut K, a: &[u8], b: &[u8], c: &[u8])

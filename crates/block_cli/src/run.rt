@@ -9,8 +9,8 @@ ghost use Rattle.block_cli.specs.Commands.{reads};
 ghost use Rattle.edge_io.specs.Outside.{GoesOn};
 
 use crate::command::Command;
-use crate::input::{Stop, read_all};
-use crate::output::give;
+use crate::input::{Unread, read_all};
+use crate::output::deliver;
 use crate::report;
 use crate::status::Status;
 use crate::words::command_of;
@@ -22,7 +22,7 @@ fn contents_for<'a, F: Files>(
     alloc: Global,
     command: &Command<'a>,
     files: &mut F,
-) -> Result<Vec<Vec<u8>>, Stop<'a>>
+) -> Result<Vec<Vec<u8>>, Unread<'a>>
     ensures goes { GoesOn (F.seen files.old) (F.seen files.new) }
     ensures same { (F.seen files.new).told ≡ (F.seen files.old).told }
     ensures read { ReadsAll (reads (command_in command.now))
@@ -44,15 +44,15 @@ fn perform<F: Files, K: Sink>(
         (seen_of (F.seen files.new) (K.seen out.new)) }
 {
     match contents_for(alloc, command, files) {
-        Err(Stop::NoMemory) => {
+        Err(Unread::NoMemory) => {
             report::out_of_memory(out);
             Status::NoMemory
         }
-        Err(Stop::CannotRead(name)) => {
+        Err(Unread::CannotRead(name)) => {
             report::cannot_read(out, name);
             Status::ReadFault
         }
-        Err(Stop::TooLong(name)) => {
+        Err(Unread::TooLong(name)) => {
             report::too_long(out, name);
             Status::BadInput
         }
@@ -61,7 +61,7 @@ fn perform<F: Files, K: Sink>(
                 report::out_of_memory(out);
                 Status::NoMemory
             }
-            Ok(answer) => give(alloc, &answer, files, out),
+            Ok(answer) => deliver(alloc, &answer, files, out),
         },
     }
 }

@@ -8,19 +8,20 @@ use std::process::ExitCode;
 /// The status of a run; its number is the program's exit status.
 #[derive(Clone, Copy, Debug, PartialEq, Eq)]
 pub enum Status {
-    /// All was done.
+    /// All was done: a block is accepted, and the next state is written.
     Done = 0,
-    /// The block is refused.
+    /// The block is refused: its parent isn't the digest of the state.
     Refused = 1,
-    /// The words are no command.
+    /// The words are no command: one too few, or 65 workers.
     Usage = 2,
-    /// A file couldn't be read.
+    /// A file couldn't be read: it isn't there.
     ReadFault = 3,
-    /// A file couldn't be written, or a line of status 0 printed.
+    /// A file couldn't be written, or the line of status 0 printed: the disk is full.
     WriteFault = 4,
-    /// Memory ran out.
+    /// Memory ran out: the process may take less than the state needs.
     NoMemory = 5,
-    /// A file other than the block is at fault.
+    /// A file other than the block is at fault: a state that is cut by one byte. Or any file is longer
+    /// than 64 MiB.
     BadInput = 6,
 }
 

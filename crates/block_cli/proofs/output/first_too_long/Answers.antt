@@ -2,7 +2,7 @@
 use Rattle.std.proofs.Common.{◌<◌, ◌≤◌, length, sym, ap, arith}
 use Rattle.std.specs.Option.{option_map}
 use Rattle.edge_io.specs.Outside.{most_bytes}
-use Rattle.block_cli.specs.Answers.{File}
+use Rattle.block_cli.specs.Answer.{File}
 use Rattle.block_cli.proofs.FileLists.{fits_next, is_too_long}
 use Rattle.block_cli.proofs.output.first_too_long.Goals as goal
 

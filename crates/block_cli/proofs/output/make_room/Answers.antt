@@ -3,7 +3,7 @@ use Rattle.std.proofs.Common.{◌≡◌, ℕ, ◌≤◌, List, length, subst, �
 use Rattle.std.specs.Global.{Vec}
 use Rattle.std.specs.Vec.{vec_len}
 use Rattle.std.proofs.lemmas.List.{length-map, take_all}
-use Rattle.block_cli.specs.Answers.{File}
+use Rattle.block_cli.specs.Answer.{File}
 use Rattle.block_cli.specs.Inside.{file_in, files_in, HaveRoom}
 use Rattle.block_cli.proofs.FileLists.{goes_further, room_step}
 use Rattle.block_cli.proofs.output.make_room.Goals as goal

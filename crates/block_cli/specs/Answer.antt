@@ -2,14 +2,14 @@
 use Rattle.std.specs.Prelude.{◌≡◌, ℕ, List, [], ◌∷◌, length, map, find, nat_lt, codes, Option, Some, None}
 use Rattle.std.specs.FinMap.{insert}
 use Rattle.edge_io.specs.Outside.{Held, most_bytes}
-use Rattle.block_cli.specs.Commands.{Name, Command, writes}
+use Rattle.block_cli.specs.Commands.{FileName, Command, writes}
 use Rattle.block_cli.specs.Report.{bad_input_line, refused_line}
 use Rattle.block_cli.specs.declared.status.Status.{Status}
 use Rattle.block_cli.specs.declared.status.Status.TheVariants.{Done, Refused, BadInput}
 
 -- a file to be written: its name and its bytes
 abbrev pub File : Type 0
-File = Name × List ℕ
+File = FileName × List ℕ
 
 -- the files in the order in which they are written
 pub record Answer : Type 0 where
@@ -22,7 +22,7 @@ abbrev pub done : List ℕ → List File → Answer
 done text files = record { status = Done; text = text; written = files }
 
 -- a file is at fault, and why; nothing is written
-abbrev pub bad_input : Name → List ℕ → Answer
+abbrev pub bad_input : FileName → List ℕ → Answer
 bad_input name why = record { status = BadInput; text = bad_input_line name why; written = [] }
 
 -- the block is refused, and why; nothing is written
@@ -31,7 +31,7 @@ refused why = record { status = Refused; text = refused_line why; written = [] }
 
 -- ---- no file of more than 64 MiB is read or written
 
-abbrev pub too_long : Name → Answer
+abbrev pub too_long : FileName → Answer
 too_long name = bad_input name (codes "TooLong")
 
 -- the first file to be written that is longer
