@@ -23,9 +23,9 @@ def cell(address, amount):
     return b'\x00' + address + b'\x05' + struct.pack('>Q', amount)
 
 
-def state_bytes(level, time, balances, contracts=0):
+def state_bytes(level, now, balances, contracts=0):
     """A state without contracts. `balances` is a list of pairs of address and amount, in the order of the file."""
-    head = b'FJS1' + struct.pack('>IQII', level, time, contracts, len(balances))
+    head = b'FJS1' + struct.pack('>IQII', level, now, contracts, len(balances))
     return head + b''.join(cell(a, n) for a, n in balances)
 
 
@@ -48,9 +48,9 @@ def receipt_bytes(tag, gas=0):
     return bytes([tag]) + struct.pack('>I', gas)
 
 
-def block_bytes(parent, level, time, ops, joins, footprints, receipts, state):
+def block_bytes(parent, level, now, ops, joins, footprints, receipts, state):
     """A block. The operations, join lists, footprints and receipts are lists of equal length."""
-    return (b'FJB1' + parent + struct.pack('>IQI', level, time, len(ops)) + b''.join(ops)
+    return (b'FJB1' + parent + struct.pack('>IQI', level, now, len(ops)) + b''.join(ops)
             + b''.join(struct.pack('>I', len(j)) + b''.join(struct.pack('>I', i) for i in j) for j in joins)
             + b''.join(map(footprint_bytes, footprints)) + b''.join(receipt_bytes(*r) for r in receipts) + state)
 
@@ -89,7 +89,7 @@ def reduced_joins(footprints):
     return joins
 
 
-def block_on(balances, transfers, level=0, time=60, joins=None, after=None, footprints=None, receipts=None):
+def block_on(balances, transfers, level=0, now=60, joins=None, after=None, footprints=None, receipts=None):
     """A block of these transfers on a state of this level, and the balances after it.
 
     Whatever isn't given is as the serial run has it, and the joins are as few as order all conflicts.
@@ -98,6 +98,6 @@ def block_on(balances, transfers, level=0, time=60, joins=None, after=None, foot
     footprints = serial_footprints if footprints is None else footprints
     joins = reduced_joins(footprints) if joins is None else joins
     after = ran if after is None else after
-    block = block_bytes(digest(balances), level + 1, time, [op_bytes(*t) for t in transfers], joins, footprints,
+    block = block_bytes(digest(balances), level + 1, now, [op_bytes(*t) for t in transfers], joins, footprints,
                         serial_receipts if receipts is None else receipts, digest(after))
     return block, after

@@ -41,9 +41,9 @@ def case(group, name, text, status, words=WORDS, files=None, after=None):
             out.write(data)
 
 
-def accepted(name, block, level, time, balances, state=STATE, words=WORDS):
+def accepted(name, block, level, now, balances, state=STATE, words=WORDS):
     case('accepted', name, f'accepted, level {level}, state {digest(balances).hex()}\n', 0, words,
-         {'state': state, 'block': block}, {'next': state_bytes(level, time, balances)})
+         {'state': state, 'block': block}, {'next': state_bytes(level, now, balances)})
 
 
 def accepted_transfer(name, source, dest, amount, balances=OPENING, **op):
@@ -65,8 +65,8 @@ def edited(data, at, new):
     return data[:at] + new + data[at + len(new):]
 
 
-def block_of(op, footprint, receipt, joins=(), after=OPENING, level=1, time=60, parent=None):
-    return block_bytes(parent or digest(OPENING), level, time, [op], [list(joins)], [footprint], [receipt], digest(after))
+def block_of(op, footprint, receipt, joins=(), after=OPENING, level=1, now=60, parent=None):
+    return block_bytes(parent or digest(OPENING), level, now, [op], [list(joins)], [footprint], [receipt], digest(after))
 
 
 EMPTY = block_bytes(digest(OPENING), 1, 60, [], [], [], [], digest(OPENING))
