@@ -1,5 +1,5 @@
 -- The law of operations: what is read is lawful and spelt so, and what is lawful is read by its spelling.
-use Rattle.std.proofs.Common.{◌≡◌, ℕ, ◌+◌, ◌<◌, ◌≤◌, ◌^◌, Bool, true, false, List, ◌++◌, length, refl, sym, ap, subst, ◌∙◌, append_assoc, arith, eq-eqb}
+use Rattle.std.proofs.Common.{◌≡◌, ℕ, ◌+◌, ◌<◌, ◌≤◌, ◌^◌, List, ◌++◌, length, refl, sym, ap, subst, ◌∙◌, append_assoc, arith, eq-eqb}
 use Rattle.std.specs.Prelude.{IsTrue, ◌&&◌, nat_le, nat_lt, ◌==◌, bytes_eq, slice_index}
 use Rattle.std.specs.Int.{w8, w32, w64, to_be_bytes}
 use Rattle.std.proofs.lemmas.Bool.{eqb-true, leb-true, le-leb, ltb-true, lt-ltb}
@@ -8,37 +8,29 @@ use Rattle.byte_fields.specs.Laws.{Reads}
 use Rattle.byte_fields.proofs.Joined.{both_reads, built_reads, checked_reads, made_reads, reads_as}
 use Rattle.byte_fields.proofs.Digits.{wide8, wide32, wide64}
 use Rattle.byte_fields.proofs.Numbers.{number_reads, run_reads}
-use Rattle.value_core.specs.Leaves.{is_address, is_name}
-use Rattle.value_codec.specs.Reading.{address}
+use Rattle.value_core.proofs.Bools.{both_true, first_true, second_true}
+use Rattle.value_core.specs.Lawful.{is_lawful_address}
+use Rattle.value_core.specs.Leaves.{is_name}
+use Rattle.value_codec.proofs.Rows.{address_reads}
 use Rattle.cell_names.specs.Accounts.{IsImplicit, is_implicit}
-use Rattle.cell_names.proofs.Ascending.{both_true}
 use Rattle.block_codec.specs.declared.transfer.Transfer.{Transfer}
 use Rattle.block_codec.specs.Block.{IsTransfer}
 use Rattle.block_codec.specs.Spelling.{default_name, call_bytes, op_bytes}
 use Rattle.block_codec.specs.Operation.{source, dest, accounts, name_length, name, param_tag, call, amount, gas, turns, Fields, op_from, op}
 
-also : (a b : Bool) → IsTrue a → IsTrue b → IsTrue (a && b)
-also true b p q = q
-also false b p q = absurd cc
-
 -- ---- accounts
 
-addresses : Reads address (λ a. a) (λ a. (length a ≡ 22) × IsTrue (is_address a))
-addresses = checked_reads is_address (run_reads 22)
+account_fits : (a : List ℕ) → IsImplicit a → IsTrue (is_lawful_address a) × IsTrue (is_implicit a)
+account_fits a good = (good.lawful, eq-eqb (slice_index a 0) 0 good.implicit)
 
-account_fits : (a : List ℕ) → IsImplicit a → ((length a ≡ 22) × IsTrue (is_address a)) × IsTrue (is_implicit a)
-account_fits a good =
-    let implicit : slice_index a 0 ≡ 0 = good.implicit in
-    ((good.long, also (length a == 22) (nat_le (slice_index a 0) 1) (eq-eqb (length a) 22 good.long) (le-leb (slice_index a 0) 1 (omega arith))), eq-eqb (slice_index a 0) 0 implicit)
-
-is_account : (a : List ℕ) → ((length a ≡ 22) × IsTrue (is_address a)) × IsTrue (is_implicit a) → IsImplicit a
-is_account a good = record { long = good.0.0; implicit = eqb-true (slice_index a 0) 0 good.1 }
+is_account : (a : List ℕ) → IsTrue (is_lawful_address a) × IsTrue (is_implicit a) → IsImplicit a
+is_account a good = record { lawful = good.0; implicit = eqb-true (slice_index a 0) 0 good.1 }
 
 source_reads : Reads source (λ a. a) IsImplicit
-source_reads = reads_as (λ a. a) IsImplicit (λ a good. (refl, is_account a good)) account_fits (checked_reads is_implicit (addresses))
+source_reads = reads_as (λ a. a) IsImplicit (λ a good. (refl, is_account a good)) account_fits (checked_reads is_implicit address_reads)
 
 dest_reads : Reads dest (λ a. a) IsImplicit
-dest_reads = reads_as (λ a. a) IsImplicit (λ a good. (refl, is_account a good)) account_fits (built_reads is_implicit (addresses))
+dest_reads = reads_as (λ a. a) IsImplicit (λ a good. (refl, is_account a good)) account_fits (built_reads is_implicit address_reads)
 
 accounts_reads : Reads accounts (λ p. p.0 ++ p.1) (λ p. IsImplicit p.0 × IsImplicit p.1)
 unfolding accounts
@@ -97,8 +89,11 @@ IsGas total n = (n ≤ 100000000) × (total + n ≤ 1000000000)
 gas_reads : (total : ℕ) → Reads (gas total) (to_be_bytes w32) (IsGas total)
 gas_reads total =
     reads_as (to_be_bytes w32) (IsGas total)
-    (λ n good. let p = both_true (nat_le n 100000000) (nat_le (total + n) 1000000000) good.1 in (refl, (leb-true n 100000000 p.0, leb-true (total + n) 1000000000 p.1)))
-    (λ n good. let few : n ≤ 100000000 = good.0 in (omega arith, also (nat_le n 100000000) (nat_le (total + n) 1000000000) (le-leb n 100000000 few) (le-leb (total + n) 1000000000 good.1)))
+    (λ n good.
+    let small = first_true (nat_le n 100000000) (nat_le (total + n) 1000000000) good.1 in
+    let room = second_true (nat_le n 100000000) (nat_le (total + n) 1000000000) good.1 in
+    (refl, (leb-true n 100000000 small, leb-true (total + n) 1000000000 room)))
+    (λ n good. let few : n ≤ 100000000 = good.0 in (omega arith, both_true (nat_le n 100000000) (nat_le (total + n) 1000000000) (le-leb n 100000000 few) (le-leb (total + n) 1000000000 good.1)))
     (checked_reads (λ n. nat_le n 100000000 && nat_le (total + n) 1000000000) ((number_reads w32 (2 ^ 32) wide32)))
 
 turns_reads : Reads turns (to_be_bytes w32) (λ n. n ≤ 1000000)

@@ -50,7 +50,7 @@ parts n = both (ops n) (both (many list n) (both (many footprint n) (many receip
 abbrev pub published : Reader Parts
 published = with small parts
 
--- parent, level, time, what is published, and the digest of the state
+-- parent, level, now, what is published, and the digest of the state
 abbrev pub Fields : Type 0
 Fields = List ℕ × (ℕ × (ℕ × (Parts × List ℕ)))
 

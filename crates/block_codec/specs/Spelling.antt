@@ -39,7 +39,7 @@ published_bytes b =
     to_be_bytes w32 (length b.ops) ++ flat_map op_bytes b.ops ++ flat_map list_bytes b.joins
     ++ flat_map spell_footprint b.footprints ++ flat_map receipt_bytes b.receipts
 
--- magic, parent, level, time, what is published, and the digest of the state
+-- magic, parent, level, now, what is published, and the digest of the state
 abbrev pub spelling : BlockView → List ℕ
 spelling b =
     magic ++ b.parent ++ to_be_bytes w32 b.level ++ to_be_bytes w64 b.now

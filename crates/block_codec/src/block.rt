@@ -12,7 +12,7 @@ use std::marker::Model;
 pub struct Block {
     /// The digest of the state that the block stands on.
     pub parent: [u8; 32],
-    /// The level and the time of the state after the block.
+    /// The level and `now` of the state after the block.
     pub head: Head,
     /// At most 512 operations, in published order.
     pub ops: Vec<Transfer>,

@@ -13,7 +13,7 @@ pub struct Transfer {
     pub amount: u64,
     /// What the operation may spend on instructions, at most 100,000,000.
     pub gas: u32,
-    /// How many bodies it may start, at most 1,000,000: one turn is one start of the body of a loop.
+    /// How many bodies it may start, at most 1,000,000: one turn is one start of a loop's body.
     pub turns: u32,
 }
 

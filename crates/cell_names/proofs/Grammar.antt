@@ -10,8 +10,8 @@ use Rattle.byte_fields.proofs.Joined.{reads_as, checked_reads, built_reads, made
 use Rattle.byte_fields.proofs.Digits.{wide8, wide32}
 use Rattle.byte_fields.proofs.Numbers.{number_reads}
 use Rattle.byte_fields.proofs.Lists.{chained_reads}
-use Rattle.value_core.specs.Leaves.{is_address}
-use Rattle.value_codec.proofs.Rows.{any_address_reads}
+use Rattle.value_core.specs.Lawful.{is_lawful_address}
+use Rattle.value_codec.proofs.Rows.{address_reads}
 use Rattle.cell_names.specs.declared.cell.Cell.{Cell}
 use Rattle.cell_names.specs.declared.cell.Cell.TheVariants.{Balance}
 use Rattle.cell_names.specs.declared.mode.Mode.{Mode}
@@ -29,13 +29,13 @@ kind_reads =
     (λ k none. ((omega arith, le-leb k 2 (omega arith)), ap (λ (k : ℕ). k == 0) none))
     (built_reads (λ k. k == 0) (checked_reads (λ k. nat_le k 2) (number_reads w8 (2 ^ 8) wide8)))
 
-cell_back : (c : Cell) → IsCell c → ((◌≡◌ {A = ℕ} 0 0) × IsTrue (is_address (address_of c))) × (Balance (address_of c) ≡ c)
+cell_back : (c : Cell) → IsCell c → ((◌≡◌ {A = ℕ} 0 0) × IsTrue (is_lawful_address (address_of c))) × (Balance (address_of c) ≡ c)
 cell_back (Balance address) good = ((refl, good), refl)
 
 pub cell_reads : Reads cell spell_cell IsCell
 cell_reads =
     made_reads (λ (p : ℕ × List ℕ). Balance p.1) (λ c. (0, address_of c)) spell_cell IsCell
-    (λ p good. (ap (λ (k : ℕ). to_be_bytes w8 k ++ p.1) good.0, good.1)) cell_back (both_reads kind_reads any_address_reads)
+    (λ p good. (ap (λ (k : ℕ). to_be_bytes w8 k ++ p.1) good.0, good.1)) cell_back (both_reads kind_reads address_reads)
 
 -- ---- modes
 

@@ -1,4 +1,3 @@
-pub mod Ascending
 pub mod Touches
 pub mod Rising
 pub mod Grammar

@@ -1,15 +1,15 @@
 -- Where a cell of a kind stands that isn't built.
-use Rattle.std.proofs.Common.{◌≡◌, ℕ, zero, suc, ◌+◌, ◌-◌, ◌<◌, ◌≤◌, ◌^◌, Bool, true, false, cond, eqb, List, [], ◌∷◌, ◌++◌, length, drop, Option, Some, None, Ok, Err, sym, refl, ap, subst, ◌∙◌, arith, append_assoc, length-append, inl, inr, ◌⊎◌}
-use Rattle.std.specs.Prelude.{IsTrue, nat_le, slice_index, bytes_eq}
+use Rattle.std.proofs.Common.{◌≡◌, ℕ, zero, suc, ◌+◌, ◌-◌, ◌<◌, ◌≤◌, ◌^◌, Bool, true, false, cond, eqb, List, [], ◌∷◌, ◌++◌, length, drop, Option, Some, None, Ok, Err, sym, refl, ap, subst, ◌∙◌, arith, append_assoc, length-append, inl, inr}
+use Rattle.std.specs.Prelude.{IsTrue, nat_le, slice_index}
 use Rattle.std.specs.Int.{Width, w8, w32, byte_len, from_be_bytes, to_be_bytes}
 use Rattle.std.specs.List.{flat_map}
-use Rattle.std.proofs.lemmas.Bool.{leb-true, le-leb, eq-eqb}
+use Rattle.std.proofs.lemmas.Bool.{leb-true, le-leb}
 use Rattle.std.proofs.lemmas.List.{length-drop, get_or-drop}
 use Rattle.std.proofs.lemmas.List.Concat.{flat_map-cons}
 use Rattle.byte_fields.specs.Stops.{Faulty, NotYet, Stop, Stopped}
 use Rattle.byte_fields.specs.Readers.{Read, Reader, after, made, both, checked, chained, run, number}
 use Rattle.byte_fields.specs.Laws.{IsBytes, Reads, AllAlong}
-use Rattle.byte_fields.proofs.Steps.{IsBytes-drop, Step, after_stop, test_stop}
+use Rattle.byte_fields.proofs.Steps.{IsBytes-drop, after_stop, test_stop}
 use Rattle.byte_fields.proofs.Joined.{checked_reads}
 use Rattle.byte_fields.proofs.Digits.{wide8, wide32}
 use Rattle.byte_fields.proofs.Numbers.{number_reads}

@@ -1,6 +1,6 @@
 -- Touches that ascend, told from one cell to the next.
-use Rattle.std.proofs.Common.{◌≡◌, ℕ, suc, ◌+◌, ◌-◌, ◌<◌, Bool, true, false, List, [], ◌∷◌, ◌++◌, length, get_or, Option, Some, None, sym, refl, ap, ◌∙◌, arith, inl, inr}
-use Rattle.std.specs.Prelude.{IsTrue, ◌&&◌, slice_get}
+use Rattle.std.proofs.Common.{◌≡◌, ℕ, suc, ◌+◌, ◌-◌, ◌<◌, true, List, [], ◌∷◌, ◌++◌, length, get_or, Option, Some, None, sym, refl, ap, ◌∙◌, arith, inl, inr}
+use Rattle.std.specs.Prelude.{IsTrue, slice_get}
 use Rattle.std.specs.declared.cmp.Ordering.TheVariants.{Less}
 use Rattle.std.specs.Ordering.{is_lt}
 use Rattle.std.specs.Option.{option_map}
@@ -8,6 +8,8 @@ use Rattle.std.specs.FinMap.Entries.{below_all}
 use Rattle.std.proofs.lemmas.Bool.{cases_lt}
 use Rattle.std.proofs.lemmas.Option.{slice_get-get_or}
 use Rattle.byte_fields.specs.Laws.{AllAlong}
+use Rattle.value_core.proofs.Bools.{both_true, first_true, second_true}
+use Rattle.value_core.proofs.PlaceLemmas.{is_Less, rises}
 use Rattle.cell_names.specs.declared.cell.Cell.{Cell}
 use Rattle.cell_names.specs.declared.mode.Mode.{Mode}
 use Rattle.cell_names.specs.Cells.{cell_cmp}
@@ -15,23 +17,20 @@ use Rattle.cell_names.specs.CellOrder.{cell_cmp-total}
 use Rattle.cell_names.specs.Footprints.{ascends}
 use Rattle.cell_names.specs.Spelling.{IsCell, AreTouches}
 use Rattle.cell_names.specs.Reading.{is_above, next_last, last_cell}
-use Rattle.cell_names.proofs.Ascending.{both_true, is_Less, rises}
-
-also : (a b : Bool) → IsTrue a → IsTrue b → IsTrue (a && b)
-also true b p q = q
-also false b p q = absurd cc
 
 -- ---- one touch more
 
 below-push : (x : Cell) (f : List (Cell × Mode)) (t : Cell × Mode) → IsTrue (below_all cell_cmp x f) → cell_cmp x t.0 ≡ Less → IsTrue (below_all cell_cmp x (f ++ t ∷ []))
-below-push x [] t h low = also (is_lt (cell_cmp x t.0)) true (ap is_lt low) refl
-below-push x (e ∷ f) t h low = let p = both_true (is_lt (cell_cmp x e.0)) (below_all cell_cmp x f) h in also (is_lt (cell_cmp x e.0)) (below_all cell_cmp x (f ++ t ∷ [])) p.0 (below-push x f t p.1 low)
+below-push x [] t h low = both_true (is_lt (cell_cmp x t.0)) true (ap is_lt low) refl
+below-push x (e ∷ f) t h low =
+    both_true (is_lt (cell_cmp x e.0)) (below_all cell_cmp x (f ++ t ∷ [])) (first_true (is_lt (cell_cmp x e.0)) (below_all cell_cmp x f) h)
+    (below-push x f t (second_true (is_lt (cell_cmp x e.0)) (below_all cell_cmp x f) h) low)
 
 sorted-push : (f : List (Cell × Mode)) (t : Cell × Mode) → IsTrue (ascends f) → ((k : ℕ) (d : Cell × Mode) → k < length f → cell_cmp (get_or f k d).0 t.0 ≡ Less) → IsTrue (ascends (f ++ t ∷ []))
 sorted-push [] t h low = refl
 sorted-push (e ∷ f) t h low =
-    let p = both_true (below_all cell_cmp e.0 f) (ascends f) h in
-    also (below_all cell_cmp e.0 (f ++ t ∷ [])) (ascends (f ++ t ∷ [])) (below-push e.0 f t p.0 (low 0 e (omega arith))) (sorted-push f t p.1 (λ k d lt. low (suc k) d (omega arith)))
+    both_true (below_all cell_cmp e.0 (f ++ t ∷ [])) (ascends (f ++ t ∷ [])) (below-push e.0 f t (first_true (below_all cell_cmp e.0 f) (ascends f) h) (low 0 e (omega arith)))
+    (sorted-push f t (second_true (below_all cell_cmp e.0 f) (ascends f) h) (λ k d lt. low (suc k) d (omega arith)))
 
 above_last : (f : List (Cell × Mode)) (t : Cell × Mode) (k : ℕ) → k + 1 ≡ length f → is_above (last_cell f) t.0 ≡ true → (d : Cell × Mode) → cell_cmp (get_or f k d).0 t.0 ≡ Less
 above_last f t k is above d =
@@ -56,8 +55,9 @@ IsNext last t = (IsCell t.0 × IsTrue (is_above last t.0)) × Unit {0}
 below_less : (x y : Cell) (f : List (Cell × Mode)) → cell_cmp x y ≡ Less → IsTrue (below_all cell_cmp y f) → IsTrue (below_all cell_cmp x f)
 below_less x y [] low h = refl
 below_less x y (t ∷ f) low h =
-    let p = both_true (is_lt (cell_cmp y t.0)) (below_all cell_cmp y f) h in
-    also (is_lt (cell_cmp x t.0)) (below_all cell_cmp x f) (ap is_lt (cell_cmp-total.trans x y t.0 low (is_Less _ p.0))) (below_less x y f low p.1)
+    let above : cell_cmp y t.0 ≡ Less = is_Less _ (first_true (is_lt (cell_cmp y t.0)) (below_all cell_cmp y f) h) in
+    both_true (is_lt (cell_cmp x t.0)) (below_all cell_cmp x f) (ap is_lt (cell_cmp-total.trans x y t.0 low above))
+    (below_less x y f low (second_true (is_lt (cell_cmp y t.0)) (below_all cell_cmp y f) h))
 
 record Risen (x : Cell) (f : List (Cell × Mode)) : Type 0 where
   below : IsTrue (below_all cell_cmp x f)
@@ -68,22 +68,24 @@ risen x [] h = record { below = refl; touches = record { ascending = refl; cells
 risen x (t ∷ f) h =
     let r = risen t.0 f h.1 in
     record {
-      below = also (is_lt (cell_cmp x t.0)) (below_all cell_cmp x f) h.0.0.1 (below_less x t.0 f (is_Less _ h.0.0.1) r.below);
-      touches = record { ascending = also (below_all cell_cmp t.0 f) (ascends f) r.below r.touches.ascending; cells = (h.0.0.0, r.touches.cells) };
+      below = both_true (is_lt (cell_cmp x t.0)) (below_all cell_cmp x f) h.0.0.1 (below_less x t.0 f (is_Less _ h.0.0.1) r.below);
+      touches = record { ascending = both_true (below_all cell_cmp t.0 f) (ascends f) r.below r.touches.ascending; cells = (h.0.0.0, r.touches.cells) };
     }
 
 pub touches_from_next : (f : List (Cell × Mode)) → AllAlong IsNext next_last None f → AreTouches f
 touches_from_next [] h = record { ascending = refl; cells = tt }
-touches_from_next (t ∷ f) h = let r = risen t.0 f h.1 in record { ascending = also (below_all cell_cmp t.0 f) (ascends f) r.below r.touches.ascending; cells = (h.0.0.0, r.touches.cells) }
+touches_from_next (t ∷ f) h = let r = risen t.0 f h.1 in record { ascending = both_true (below_all cell_cmp t.0 f) (ascends f) r.below r.touches.ascending; cells = (h.0.0.0, r.touches.cells) }
 
 rise : (x : Cell) (f : List (Cell × Mode)) → IsTrue (below_all cell_cmp x f) → AreTouches f → AllAlong IsNext next_last (Some x) f
 rise x [] low h = tt
 rise x (t ∷ f) low h =
-    let p = both_true (below_all cell_cmp t.0 f) (ascends f) h.ascending in
-    (((h.cells.0, (both_true (is_lt (cell_cmp x t.0)) (below_all cell_cmp x f) low).0), tt), rise t.0 f p.0 (record { ascending = p.1; cells = h.cells.1 }))
+    let later : IsTrue (below_all cell_cmp t.0 f) = first_true (below_all cell_cmp t.0 f) (ascends f) h.ascending in (
+      ((h.cells.0, first_true (is_lt (cell_cmp x t.0)) (below_all cell_cmp x f) low), tt),
+      rise t.0 f later (record { ascending = second_true (below_all cell_cmp t.0 f) (ascends f) h.ascending; cells = h.cells.1 }),
+    )
 
 pub next_from_touches : (f : List (Cell × Mode)) → AreTouches f → AllAlong IsNext next_last None f
 next_from_touches [] h = tt
 next_from_touches (t ∷ f) h =
-    let p = both_true (below_all cell_cmp t.0 f) (ascends f) h.ascending in
-    (((h.cells.0, refl), tt), rise t.0 f p.0 (record { ascending = p.1; cells = h.cells.1 }))
+    let later : IsTrue (below_all cell_cmp t.0 f) = first_true (below_all cell_cmp t.0 f) (ascends f) h.ascending in
+    (((h.cells.0, refl), tt), rise t.0 f later (record { ascending = second_true (below_all cell_cmp t.0 f) (ascends f) h.ascending; cells = h.cells.1 }))

@@ -8,4 +8,3 @@ pub mod Stops
 pub mod Reading
 -- what functions inside promise each other
 pub mod CellOrder
-pub mod Places

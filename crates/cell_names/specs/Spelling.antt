@@ -2,7 +2,7 @@
 use Rattle.std.specs.Prelude.{◌≡◌, ℕ, ◌+◌, ◌<◌, ◌≤◌, List, [], ◌∷◌, ◌++◌, length, drop, IsTrue, ◌⊎◌}
 use Rattle.std.specs.Int.{w32, to_be_bytes}
 use Rattle.std.specs.List.{flat_map, AllByRecursion}
-use Rattle.value_core.specs.Leaves.{is_address}
+use Rattle.value_core.specs.Lawful.{is_lawful_address}
 use Rattle.cell_names.specs.declared.cell.Cell.{Cell}
 use Rattle.cell_names.specs.declared.cell.Cell.TheVariants.{Balance}
 use Rattle.cell_names.specs.declared.mode.Mode.{Mode}
@@ -27,9 +27,9 @@ spell_touch t = spell_cell t.0 ++ spell_mode t.1
 abbrev pub spell_footprint : List (Cell × Mode) → List ℕ
 spell_footprint f = to_be_bytes w32 (length f) ++ flat_map spell_touch f
 
--- a cell's address is one
+-- a cell's address is lawful: 22 bytes, the first 0 or 1
 abbrev pub IsCell : Cell → Type 0
-IsCell (Balance address) = IsTrue (is_address address)
+IsCell (Balance address) = IsTrue (is_lawful_address address)
 
 -- cells that ascend
 pub record AreTouches (f : List (Cell × Mode)) : Type 0 where

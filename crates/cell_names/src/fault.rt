@@ -11,20 +11,24 @@ use std::alloc::{AllocError, AllocFailed};
 /// Where reading stopped, inside a format, of what takes no memory.
 #[derive(Clone, Copy, Debug, PartialEq, Eq)]
 pub enum FieldStop {
-    /// A field misses bytes or breaks its rule: so many bytes are left at its first byte.
+    /// A field misses bytes or breaks its rule, as a kind 03: so many bytes are left at its first
+    /// byte.
     Left(usize),
-    /// A field is lawful and isn't built yet: so many bytes are left at its first byte.
+    /// A field is lawful and isn't built yet, as a kind 01: so many bytes are left at its first
+    /// byte.
     NotYet(usize),
 }
 
 /// Why reading stopped, inside a format, of what takes memory.
 #[derive(Clone, Copy, Debug, PartialEq, Eq)]
 pub enum FormatStop {
-    /// Memory ran out.
+    /// Memory ran out, as for a list's items.
     NoMemory,
-    /// A field misses bytes or breaks its rule: so many bytes are left at its first byte.
+    /// A field misses bytes or breaks its rule, as a kind 03: so many bytes are left at its first
+    /// byte.
     Left(usize),
-    /// A field is lawful and isn't built yet: so many bytes are left at its first byte.
+    /// A field is lawful and isn't built yet, as a kind 01: so many bytes are left at its first
+    /// byte.
     NotYet(usize),
 }
 
@@ -85,11 +89,13 @@ impl<T: Drop> From<AllocFailed<T>> for FormatStop {
 /// Why bytes could not be read.
 #[derive(Clone, Copy, Debug, PartialEq, Eq)]
 pub enum FormatFault {
-    /// The first byte of the first field that misses bytes or breaks its rule.
+    /// The first byte of the first field that misses bytes or breaks its rule: `At(0)` for the cell
+    /// `03`, and `At(1)` for `00` with an address of 21 bytes.
     At(At),
-    /// The first byte of a cell of a kind that isn't built yet; all before it keeps the rules.
+    /// The first byte of a field that isn't built yet, where all before it keeps the rules:
+    /// `NotYet(0)` for the cell `01`.
     NotYet(usize),
-    /// Memory ran out.
+    /// Memory ran out, as for the touches of a footprint; a cell takes none.
     NoMemory,
 }
 

@@ -1,9 +1,10 @@
 //! What an operation touched.
 
-ghost use Rattle.std.specs.Prelude.{◌≡◌, ◌↔◌, [], length, IsTrue, IfOk, OnOk, OnErr, slice_get};
+ghost use Rattle.std.specs.Prelude.{◌≡◌, ◌≤◌, ◌↔◌, [], length, IsTrue, IfOk, OnOk, OnErr, slice_get};
 ghost use Rattle.std.specs.Option.{option_map};
+ghost use Rattle.value_core.specs.Places.{StandsAt};
+ghost use Rattle.cell_names.specs.Cells.{cell_cmp};
 ghost use Rattle.cell_names.specs.Footprints.{mode_of, touched, ascends};
-ghost use Rattle.cell_names.specs.Places.{StandsAt};
 
 use crate::cell::{Cell, NoMemory, order};
 use crate::mode::{Mode, join};
@@ -127,10 +128,17 @@ impl Footprint {
     }
 }
 
+/// Room for as many touches.
+fn capacity(touches: &[(Cell, Mode)]) -> usize
+    ensures { result ≤ length touches.now }
+{
+    touches.len()
+}
+
 fn copy_touches(alloc: Global, touches: &[(Cell, Mode)]) -> Result<Vec<(Cell, Mode)>, NoMemory>
     ensures { IfOk result (λ copied. copied.items ≡ touches.now) }
 {
-    let mut copied = Vec::with_capacity(alloc, touches.len())?;
+    let mut copied = Vec::with_capacity(alloc, capacity(touches))?;
     for touch in touches {
         copied.push((touch.0.copy(alloc)?, touch.1))?;
     }
@@ -154,7 +162,7 @@ fn same_touches(a: &[(Cell, Mode)], b: &[(Cell, Mode)]) -> bool
 /// Where the cell stands, or else where it would stand.
 fn place(touches: &[(Cell, Mode)], c: &Cell) -> Result<usize, usize>
     requires { IsTrue (ascends touches.now) }
-    ensures { StandsAt touches.now c.now result }
+    ensures { StandsAt (λ touch. touch.0) cell_cmp touches.now c.now result }
 {
     touches.binary_search_by(|touch| order(&touch.0, c))
 }

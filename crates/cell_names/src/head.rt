@@ -1,6 +1,6 @@
 //! The head of a state or a block.
 
-/// The level, which is the number of blocks before, and the time in seconds.
+/// The level of a state or a block, and its `now`.
 #[derive(Clone, Copy, Debug, PartialEq, Eq)]
 pub struct Head {
     /// How many blocks stand before.

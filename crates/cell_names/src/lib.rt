@@ -10,7 +10,7 @@
 //! - `footprint`: a map from cells to modes, in the order of cells.
 //! - `writer`, `reader`: the bytes of cells and footprints, one spelling each.
 //! - `fault`: why bytes are no footprint; formats above answer by it too.
-//! - `head`: the level and the time of a state or a block.
+//! - `head`: the level of a state or a block, and its `now`.
 //!
 //! Contracts see a footprint as the list of its cells and modes. Its type keeps that the cells
 //! strictly ascend, so it is a finite map too.

@@ -6,12 +6,12 @@ use Rattle.std.specs.Ordering.{eq_by_cmp}
 use Rattle.std.specs.Cmp.{Equal-is, eq_by_cmp_equiv}
 use Rattle.std.specs.FinMap.Entries.{find-append}
 use Rattle.std.proofs.lemmas.List.{append-nil, take_more, get_or-take, get_or_default, length-take}
+use Rattle.value_core.proofs.PlaceLemmas.{rises, find-gap}
 use Rattle.cell_names.specs.declared.cell.Cell.{Cell}
 use Rattle.cell_names.specs.declared.mode.Mode.{Mode}
 use Rattle.cell_names.specs.Cells.{cell_cmp}
 use Rattle.cell_names.specs.CellOrder.{cell_cmp-total, cell_cmp-ties}
 use Rattle.cell_names.specs.Footprints.{ascends, mode_of}
-use Rattle.cell_names.proofs.Ascending.{rises, find-gap}
 use Rattle.join_schedule.specs.Touchers.{items_of, noted_at, one_touch}
 
 -- cells that tie are one cell

@@ -5,13 +5,14 @@ use Rattle.std.specs.Ordering.{is_gt, eq_by_cmp}
 use Rattle.std.specs.Cmp.{tied_itself}
 use Rattle.std.proofs.lemmas.Bool.{cases_lt}
 use Rattle.std.proofs.lemmas.List.{get_or-take, length-take, take_more}
+use Rattle.value_core.proofs.Bools.{first_true, second_true}
+use Rattle.value_core.proofs.PlaceLemmas.{rises, find-place}
 use Rattle.cell_names.specs.declared.cell.Cell.{Cell}
 use Rattle.cell_names.specs.declared.mode.Mode.{Mode}
 use Rattle.cell_names.specs.declared.mode.Mode.TheVariants.{Read}
 use Rattle.cell_names.specs.Cells.{cell_cmp}
 use Rattle.cell_names.specs.CellOrder.{cell_cmp-total}
 use Rattle.cell_names.specs.Footprints.{ascends, mode_of, modes_conflict}
-use Rattle.cell_names.proofs.Ascending.{rises, find-place}
 use Rattle.join_schedule.specs.Joins.{IsBefore}
 use Rattle.join_schedule.specs.Cover.{footprint_of, AreInConflict, IsFirstUnordered}
 use Rattle.join_schedule.specs.Sets.{is_marked}
@@ -45,10 +46,6 @@ has_mode : (held other : Option Mode) → IsTrue (modes_conflict held other) →
 has_mode None other h = absurd cc
 has_mode (Some k) None h = absurd cc
 has_mode (Some k) (Some m) h = (m, refl)
-
-both_true : (a b : Bool) → (a && b) ≡ true → (a ≡ true) × (b ≡ true)
-both_true true b h = (refl, h)
-both_true false b h = absurd cc
 
 not_true : (b : Bool) → not b ≡ true → b ≡ false
 not_true true h = absurd cc
@@ -136,9 +133,10 @@ module _ (joins : List (List ℕ)) (fs : List (List (Cell × Mode))) (j : ℕ) (
         let here : is_blocked row t.1 a (mode_of (get_or (take j fs) a []) t.0) ≡ true = subst (λ (k : ℕ). is_blocked row t.1 a (mode_of (get_or (take j fs) k []) t.0) ≡ true) op w.here in
         let same : is_blocked row t.1 a (mode_of (footprint_of fs a) t.0) ≡ true = subst (λ (f : List (Cell × Mode)). is_blocked row t.1 a (mode_of f t.0) ≡ true) (earlier-is a earlier) here in
         let blocked : is_blocked row t.1 a (mode_of (footprint_of fs a) c) ≡ true = subst (λ (k : Cell). is_blocked row t.1 a (mode_of (footprint_of fs a) k) ≡ true) (s.cell at) same in
-        let parts = both_true (modes_conflict (mode_of (footprint_of fs a) c) (Some t.1)) (not (is_marked row a)) blocked in
+        let clash = first_true (modes_conflict (mode_of (footprint_of fs a) c) (Some t.1)) (not (is_marked row a)) blocked in
+        let off = second_true (modes_conflict (mode_of (footprint_of fs a) c) (Some t.1)) (not (is_marked row a)) blocked in
         let mine : mode_of (footprint_of fs j) c ≡ Some t.1 = find-place cell_cmp-total (footprint_of fs j) c s.place at up (record { within = s.within; here = λ d. s.cell d }) in
-        record { earlier = earlier; conflict = ap (modes_conflict (mode_of (footprint_of fs a) c)) mine ∙ parts.0; unmarked = not_true (is_marked row a) parts.1 }
+        record { earlier = earlier; conflict = ap (modes_conflict (mode_of (footprint_of fs a) c)) mine ∙ clash; unmarked = not_true (is_marked row a) off }
 
     on_off : (b : Bool) → b ≡ true → b ≡ false → ⊥
     on_off true on off = absurd cc

@@ -5,7 +5,7 @@ ghost use Rattle.join_schedule.specs.Joins.{AreJoins, IsJoinList, IsFirstBad};
 
 use crate::joins::Joins;
 
-/// The first operation whose list doesn't strictly ascend, or names an operation that isn't earlier.
+/// The first operation whose list doesn't strictly ascend, or names one that isn't earlier.
 pub fn bad_join(j: &Joins) -> Option<u32>
     requires { length j.now < 2 ^ 32 }
     ensures first { IfSome result (IsFirstBad j.now) }

@@ -104,3 +104,23 @@ fn a_transfer_out_of_a_credited_account_is_ordered(rt: HostRuntime) -> Result<()
     assert!(rt; cell.same(&account(T)?));
     Ok(())
 }
+
+// 512 transfers out of one account, each joined to the one before.
+#[test]
+fn a_chain_of_512_operations_covers_their_conflicts(rt: HostRuntime) -> Result<(), Fail> {
+    let alloc = rt.alloc();
+    let mut lists: Vec<Vec<u32>> = Vec::new(alloc);
+    let mut footprints = Vec::new(alloc);
+    lists.push(Vec::new(alloc))?;
+    footprints.push(footprint(alloc, A, Some(B))?)?;
+    for before in 0..511u32 {
+        lists.push(Vec::from_slice(alloc, &[before])?)?;
+        footprints.push(footprint(alloc, A, Some(B))?)?;
+    }
+    let published = Joins::new(lists);
+    assert_eq!(rt; published.len(), 512);
+    assert_eq!(rt; footprints.len(), 512);
+    assert_eq!(rt; bad_join(&published), None);
+    assert!(rt; first_unordered(alloc, &published, footprints.as_slice())?.is_none());
+    Ok(())
+}

@@ -22,7 +22,8 @@ pub fn note(
     touches: &[(Cell, Mode)],
 ) -> Result<(), NoMemory>
     requires { IsTrue (ascends touches.now) }
-    ensures { OnOk result ((c : Cell) → touches_at touchers.new c ≡ touches_at touchers.old c ++ one_touch op (mode_of touches.now c)) }
+    ensures { OnOk result ((c : Cell) → touches_at touchers.new c
+        ≡ touches_at touchers.old c ++ one_touch op (mode_of touches.now c)) }
 {
     for touch in touches {
         note_one(alloc, touchers, &touch.0, (op, touch.1))?;
@@ -36,7 +37,8 @@ fn note_one(
     cell: &Cell,
     touch: (u32, Mode),
 ) -> Result<(), NoMemory>
-    ensures { OnOk result ((c : Cell) → touches_at touchers.new c ≡ touches_at touchers.old c ++ noted_at c cell.now touch) }
+    ensures { OnOk result ((c : Cell) → touches_at touchers.new c
+        ≡ touches_at touchers.old c ++ noted_at c cell.now touch) }
 {
     let mut touches = touchers.remove(cell).unwrap_or(Vec::new(alloc));
     touches.push(touch)?;
@@ -51,7 +53,8 @@ pub fn first_among<'a>(
     touchers: &Touchers,
     touches: &'a [(Cell, Mode)],
 ) -> Option<(u32, &'a Cell)>
-    ensures { option_map (λ x. (x.0, x.1.now)) result ≡ first_apart row.now (touches_at touchers.now) touches.now }
+    ensures { option_map (λ x. (x.0, x.1.now)) result
+        ≡ first_apart row.now (touches_at touchers.now) touches.now }
 {
     let mut first: Option<(u32, &Cell)> = None;
     for touch in touches {
@@ -66,7 +69,9 @@ fn sooner_of<'a>(
     here: Option<u32>,
     cell: &'a Cell,
 ) -> Option<(u32, &'a Cell)>
-    ensures { option_map (λ x. (x.0, x.1.now)) result ≡ sooner (option_map (λ x. (x.0, x.1.now)) first.entry) (option_map (λ i. (i, cell.now)) here) }
+    ensures { option_map (λ x. (x.0, x.1.now)) result
+        ≡ sooner (option_map (λ x. (x.0, x.1.now)) first.entry)
+        (option_map (λ i. (i, cell.now)) here) }
 {
     match (first, here) {
         (Some(known), Some(op)) => {

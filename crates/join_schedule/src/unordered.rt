@@ -22,7 +22,8 @@ pub fn first_unordered(
     requires paired { length j.now ≡ length f.now }
     requires small { length f.now < 2 ^ 32 }
     ensures cover { IfOk result (λ first. IfNone first (Cover j.now f.now)) }
-    ensures first { IfOk result (λ first. IfSome first (λ told. IsFirstUnordered j.now f.now told.0 told.1 told.2)) }
+    ensures first { IfOk result (λ first.
+        IfSome first (λ told. IsFirstUnordered j.now f.now told.0 told.1 told.2)) }
 {
     let rows = rows_before(alloc, j)?;
     let mut touchers = BTreeMap::new(alloc);

@@ -2,7 +2,6 @@
 use Rattle.std.proofs.Common.{◌≡◌, ℕ, suc, ◌+◌, ◌<◌, ◌^◌, true, eqb, List, ◌∷◌, ◌++◌, length, Option, None, refl, sym, ap, ◌∙◌, arith}
 use Rattle.std.specs.Prelude.{IsTrue, slice_index, nat_le}
 use Rattle.std.specs.List.{flat_map}
-use Rattle.std.specs.Cmp.{first_so}
 use Rattle.std.specs.Int.{w32, w64, to_be_bytes}
 use Rattle.std.proofs.lemmas.Bool.{eqb-true, eq-eqb, ltb-true, lt-ltb, le-leb}
 use Rattle.byte_fields.specs.Readers.{number, made, checked, with}
@@ -16,13 +15,14 @@ use Rattle.value_core.specs.declared.val.Val.TheVariants as variant
 use Rattle.value_core.specs.declared.val.Val.TheOpen as one
 use Rattle.value_core.specs.declared.val.Val.TheViews.{out-Val, roll-Val}
 use Rattle.value_core.specs.Layer.{Layer}
-use Rattle.value_core.specs.Leaves.{is_address}
+use Rattle.value_core.specs.Lawful.{is_lawful_address}
 use Rattle.value_core.proofs.Levels.{out-roll, roll-out}
 use Rattle.value_codec.specs.Reading.{value}
 use Rattle.value_codec.specs.Spelling.{spell}
 use Rattle.value_codec.proofs.Levels.{IsGood, good_at}
 use Rattle.value_codec.proofs.Spelt.{spell_mutez}
 use Rattle.value_codec.proofs.ValueLaws.{value_reads}
+use Rattle.value_core.proofs.Bools.{both_true, first_true, second_true}
 use Rattle.cell_names.specs.declared.cell.Cell.{Cell}
 use Rattle.cell_names.specs.declared.cell.Cell.TheVariants.{Balance}
 use Rattle.cell_names.specs.Accounts.{IsImplicit, is_implicit}
@@ -34,7 +34,6 @@ use Rattle.ledger_state.specs.declared.holding.Holding.{Holding}
 use Rattle.ledger_state.specs.Ledger.{pair}
 use Rattle.ledger_state.specs.Spelling.{cell}
 use Rattle.ledger_state.specs.Reading.{Before, next, amount_level, amount_of, is_room, fits, name, amount, holding, cells, contracts, book}
-use Rattle.ledger_state.proofs.Ascending.{second_so, both_so}
 
 -- ---- amounts
 
@@ -57,10 +56,10 @@ abbrev pub IsRoom : ℕ → ℕ → Type 0
 IsRoom total n = (0 < n) × (total + n < 2 ^ 63)
 
 room_from : (total n : ℕ) → is_room total n ≡ true → IsRoom total n
-room_from total n h = (ltb-true 0 n (first_so _ _ h), ltb-true (total + n) (2 ^ 63) (second_so _ _ h))
+room_from total n h = (ltb-true 0 n (first_true _ _ h), ltb-true (total + n) (2 ^ 63) (second_true _ _ h))
 
 room_to : (total n : ℕ) → IsRoom total n → is_room total n ≡ true
-room_to total n h = both_so _ _ (lt-ltb 0 n h.0) (lt-ltb (total + n) (2 ^ 63) h.1)
+room_to total n h = both_true _ _ (lt-ltb 0 n h.0) (lt-ltb (total + n) (2 ^ 63) h.1)
 
 abbrev amount_bytes : ℕ → List ℕ
 amount_bytes n = 5 ∷ to_be_bytes w64 n
@@ -73,12 +72,12 @@ amount_read : (d : ℕ) (c : Cell) (total : ℕ) → Reads (made amount_of (chec
 amount_read d c total =
     made_reads amount_of variant.Mutez amount_bytes (MayHave c total)
     (λ v good.
-    let room : IsRoom total (amount_of v) = room_from total (amount_of v) (second_so _ _ good.1) in
-    (ap spell (value_is v room.0) ∙ spell_mutez (amount_of v), (first_so _ _ good.1, room)))
+    let room : IsRoom total (amount_of v) = room_from total (amount_of v) (second_true _ _ good.1) in
+    (ap spell (value_is v room.0) ∙ spell_mutez (amount_of v), (first_true _ _ good.1, room)))
     (λ n good.
     let room : IsRoom total n = good.1 in
     let small : n < 2 ^ 63 = omega arith in
-    ((mutez_good d n small, both_so _ _ good.0 (ap (is_room total) (amount_of-Mutez n) ∙ room_to total n room)), amount_of-Mutez n))
+    ((mutez_good d n small, both_true _ _ good.0 (ap (is_room total) (amount_of-Mutez n) ∙ room_to total n room)), amount_of-Mutez n))
     (checked_reads (fits c total) ((value_reads 18 (suc d))))
 
 pub amount_reads : (c : Cell) (total : ℕ) → Reads (amount c total) amount_bytes (MayHave c total)
@@ -100,13 +99,8 @@ IsNext last a = IsImplicit a × IsTrue (is_above last (Balance a))
 abbrev pub Follows : Before → Holding → Type 0
 Follows before h = IsNext before.0 h.address × IsRoom before.1 h.amount
 
-implicit_from : (a : List ℕ) → is_address a ≡ true → is_implicit a ≡ true → IsImplicit a
-implicit_from a is implicit = record { long = eqb-true (length a) 22 (first_so _ _ is); implicit = eqb-true (slice_index a 0) 0 implicit }
-
-address_from : (a : List ℕ) → IsImplicit a → is_address a ≡ true
-address_from a good =
-    let low : slice_index a 0 ≡ 0 = good.implicit in
-    both_so _ _ (eq-eqb (length a) 22 good.long) (le-leb (slice_index a 0) 1 (omega arith))
+implicit_from : (a : List ℕ) → is_lawful_address a ≡ true → is_implicit a ≡ true → IsImplicit a
+implicit_from a lawful implicit = record { lawful = lawful; implicit = eqb-true (slice_index a 0) 0 implicit }
 
 -- the holding of a cell that was read
 abbrev IsOf : Cell → ℕ → Holding → Type 0
@@ -123,7 +117,7 @@ pub holding_reads : (before : Before) → Reads (holding before) (λ h. cell (pa
 holding_reads before =
     reads_as (λ h. cell (pair h)) (Follows before)
     (λ h good. (refl, ((implicit_from h.address good.0.0 good.1.1.0, good.0.1), good.1.1.1)))
-    (λ h good. ((address_from h.address good.0.0, good.0.1), (refl, (eq-eqb (slice_index h.address 0) 0 good.0.0.implicit, good.1))))
+    (λ h good. ((good.0.0.lawful, good.0.1), (refl, (eq-eqb (slice_index h.address 0) 0 good.0.0.implicit, good.1))))
     (with_reads (name_reads before.0) (λ c. of_cell c before.1) (λ (h : Holding). Balance h.address) (λ c h good. sym good.0))
 
 abbrev pub Follow : ℕ → List Holding → Type 0

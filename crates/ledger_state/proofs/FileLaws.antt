@@ -2,7 +2,6 @@
 use Rattle.std.proofs.Common.{◌≡◌, ℕ, ◌+◌, ◌<◌, ◌^◌, Bool, true, List, [], ◌∷◌, ◌++◌, length, Option, Some, None, Result, Ok, Err, refl, sym, ap, subst, ◌∙◌, arith}
 use Rattle.std.specs.Prelude.{map, sum, IfOk}
 use Rattle.std.specs.List.{flat_map, AllByRecursion}
-use Rattle.std.specs.Cmp.{first_so}
 use Rattle.std.specs.Int.{w32, w64, to_be_bytes}
 use Rattle.std.specs.FinMap.{entries, len, len-entries, is_sorted}
 use Rattle.std.specs.FinMap.Entries.{below_all}
@@ -14,52 +13,54 @@ use Rattle.byte_fields.proofs.Joined.{both_reads, made_reads}
 use Rattle.byte_fields.proofs.Whole.{whole_reads}
 use Rattle.byte_fields.proofs.Digits.{wide32, wide64}
 use Rattle.byte_fields.proofs.Numbers.{behind_reads, number_reads}
-use Rattle.cell_names.specs.declared.cell.Cell as names
+use Rattle.value_core.proofs.Bools.{both_true, first_true, second_true}
+use Rattle.value_core.proofs.PlaceLemmas.{is_Less}
+use Rattle.cell_names.specs.declared.cell.Cell.{Cell}
 use Rattle.cell_names.specs.declared.cell.Cell.TheVariants.{Balance}
 use Rattle.cell_names.specs.declared.fault.FormatStop.{FormatStop}
 use Rattle.byte_fields.specs.Told.{AnswersUnlessFull}
 use Rattle.cell_names.specs.Stops.{format_stop}
 use Rattle.cell_names.specs.Reading.{is_above}
 use Rattle.ledger_state.specs.declared.holding.Holding.{Holding}
-use Rattle.ledger_state.specs.Ledger.{Ledger, Balances, AreBalances, Ascends, pair}
+use Rattle.ledger_state.specs.Ledger.{BalanceEntry, Ledger, Balances, AreBalances, Ascends, pair}
 use Rattle.ledger_state.specs.Holdings.{AreHoldings, balances_of, ledger_from}
 use Rattle.ledger_state.specs.Spelling.{magic, cell, spelling, IsLedger}
 use Rattle.ledger_state.specs.Reading.{Before, next, book, ledger}
-use Rattle.ledger_state.proofs.Ascending.{second_so, both_so, lt_is, below_all_less}
-use Rattle.ledger_state.proofs.Changing.{R, o, Cell, IsFunded, entries_funded, balances_from_entries}
+use Rattle.ledger_state.proofs.Ascending.{below_all_less}
+use Rattle.ledger_state.proofs.Changing.{R, o, IsFunded, entries_funded, balances_from_entries}
 use Rattle.ledger_state.proofs.HoldingLemmas.{entries-balances_of, unpair, balances_are}
 use Rattle.ledger_state.proofs.FieldLaws.{Follows, Follow, book_bytes, IsBook, book_reads}
 
 -- ---- one after the other, and all of them
 
 -- what these amounts are together
-abbrev total_of : List Cell → ℕ
-total_of es = sum (map (λ (e : Cell). e.1) es)
+abbrev total_of : List BalanceEntry → ℕ
+total_of es = sum (map (λ (e : BalanceEntry). e.1) es)
 
-total_of-cons : (e : Cell) (es : List Cell) → total_of (e ∷ es) ≡ e.1 + total_of es
-total_of-cons e es = sum_by-cons (λ n. n) e.1 (map (λ (e : Cell). e.1) es)
+total_of-cons : (e : BalanceEntry) (es : List BalanceEntry) → total_of (e ∷ es) ≡ e.1 + total_of es
+total_of-cons e es = sum_by-cons (λ n. n) e.1 (map (λ (e : BalanceEntry). e.1) es)
 
 -- each key is above the last one, where there is one
-abbrev are_above : Option names.Cell → List Cell → Bool
+abbrev are_above : Option Cell → List BalanceEntry → Bool
 are_above None es = true
 are_above (Some (Balance last)) es = below_all R last es
 
 -- what holdings that follow each other are together
-record Together (before : Before) (es : List Cell) : Type 0 where
+record Together (before : Before) (es : List BalanceEntry) : Type 0 where
   ascend : is_sorted R es ≡ true
   above : are_above before.0 es ≡ true
   funded : AllByRecursion IsFunded es
   within : before.1 < 2 ^ 63 → before.1 + total_of es < 2 ^ 63
 
-are_above-cons : (last : Option names.Cell) (e : Cell) (es : List Cell) → is_above last (Balance e.0) ≡ true → below_all R e.0 es ≡ true → are_above last (e ∷ es) ≡ true
+are_above-cons : (last : Option Cell) (e : BalanceEntry) (es : List BalanceEntry) → is_above last (Balance e.0) ≡ true → below_all R e.0 es ≡ true → are_above last (e ∷ es) ≡ true
 are_above-cons None e es a h = refl
-are_above-cons (Some (Balance last)) e es a h = both_so _ _ a (below_all_less o last e.0 es (lt_is _ a) h)
+are_above-cons (Some (Balance last)) e es a h = both_true _ _ a (below_all_less o last e.0 es (is_Less _ a) h)
 
-above_first : (last : Option names.Cell) (e : Cell) (es : List Cell) → are_above last (e ∷ es) ≡ true → is_above last (Balance e.0) ≡ true
+above_first : (last : Option Cell) (e : BalanceEntry) (es : List BalanceEntry) → are_above last (e ∷ es) ≡ true → is_above last (Balance e.0) ≡ true
 above_first None e es h = refl
-above_first (Some (Balance last)) e es h = first_so _ _ h
+above_first (Some (Balance last)) e es h = first_true _ _ h
 
-none_above : (last : Option names.Cell) → are_above last [] ≡ true
+none_above : (last : Option Cell) → are_above last [] ≡ true
 none_above None = refl
 none_above (Some (Balance last)) = refl
 
@@ -68,7 +69,7 @@ together before [] h = record { ascend = refl; above = none_above before.0; fund
 together before (x ∷ hs) h =
     let t = together (next before x) hs h.1 in
     record {
-      ascend = both_so _ _ t.above t.ascend;
+      ascend = both_true _ _ t.above t.ascend;
       above = are_above-cons before.0 (pair x) (map pair hs) h.0.0.1 t.above;
       funded = ((h.0.0.0, h.0.1.0), t.funded);
       within = λ lt. omega (arith, t.within h.0.1.1, total_of-cons (pair x) (map pair hs));
@@ -78,7 +79,7 @@ along : (before : Before) (hs : List Holding) → Ascends hs → are_above befor
 along before [] s a f lt = tt
 along before (x ∷ hs) s a f lt =
     let sum_is : total_of (map pair (x ∷ hs)) ≡ x.amount + total_of (map pair hs) = total_of-cons (pair x) (map pair hs) in
-    (((f.0.0, above_first before.0 (pair x) (map pair hs) a), (f.0.1, omega arith)), along (next before x) hs (second_so _ _ s) (first_so _ _ s) f.1 (omega arith))
+    (((f.0.0, above_first before.0 (pair x) (map pair hs) a), (f.0.1, omega arith)), along (next before x) hs (second_true _ _ s) (first_true _ _ s) f.1 (omega arith))
 
 pub AreHoldings-from_follow : (n : ℕ) (hs : List Holding) → Follow n hs → AreHoldings hs
 AreHoldings-from_follow n hs h =
@@ -87,16 +88,16 @@ AreHoldings-from_follow n hs h =
     record {
       ascend = t.ascend;
       lawful = balances_from_entries (balances_of hs) (subst (AllByRecursion IsFunded) (sym is) t.funded)
-          (subst (λ (es : List Cell). total_of es < 2 ^ 63) (sym is) (omega (arith, t.within (omega arith))));
+          (subst (λ (es : List BalanceEntry). total_of es < 2 ^ 63) (sym is) (omega (arith, t.within (omega arith))));
     }
 
 follow_from_balances : (m : Balances) (hs : List Holding) → map pair hs ≡ entries m → AreBalances m → Follow (length hs) hs
 follow_from_balances m hs is h =
-    (refl, along (None, 0) hs (balances_are hs m is).0 refl (subst (AllByRecursion IsFunded) (sym is) (entries_funded m h)) (subst (λ (es : List Cell). 0 + total_of es < 2 ^ 63) (sym is) (omega (arith, h.within))))
+    (refl, along (None, 0) hs (balances_are hs m is).0 refl (subst (AllByRecursion IsFunded) (sym is) (entries_funded m h)) (subst (λ (es : List BalanceEntry). 0 + total_of es < 2 ^ 63) (sym is) (omega (arith, h.within))))
 
 -- ---- the file
 
--- level, time and holdings, as they stand in the file
+-- level, now and holdings, as they stand in the file
 abbrev Parts : Type 0
 Parts = ℕ × (ℕ × List Holding)
 
@@ -129,9 +130,9 @@ holding_bytes-pairs (h ∷ hs) = ap (λ (bytes : List ℕ). cell (pair h) ++ byt
 abbrev spelt : ℕ → ℕ → ℕ → List ℕ → List ℕ
 spelt level now n bytes = magic ++ to_be_bytes w32 level ++ to_be_bytes w64 now ++ to_be_bytes w32 0 ++ to_be_bytes w32 n ++ bytes
 
-pairs_back : (es : List Cell) → map pair (map unpair es) ≡ es
+pairs_back : (es : List BalanceEntry) → map pair (map unpair es) ≡ es
 pairs_back [] = refl
-pairs_back (e ∷ es) = ap (λ (es : List Cell). e ∷ es) (pairs_back es)
+pairs_back (e ∷ es) = ap (λ (es : List BalanceEntry). e ∷ es) (pairs_back es)
 
 from_good : (p : Parts) → AreParts p → (parts_bytes p ≡ spelling (from_parts p)) × IsLedger (from_parts p)
 from_good p good =

@@ -9,20 +9,23 @@ use Rattle.std.proofs.lemmas.List.Folds.{list_all-map}
 use Rattle.std.proofs.lemmas.Map.Text.{is_eq-slice_cmp}
 use Rattle.std.specs.declared.cmp.Ordering.TheVariants.{Less, Equal, Greater}
 use Rattle.std.specs.Ordering.{is_lt, is_eq, ordering_reverse}
-use Rattle.std.specs.Cmp.{first_so, tied_back}
+use Rattle.std.specs.Cmp.{tied_back}
 use Rattle.std.specs.List.{list_all}
 use Rattle.std.specs.List.Sorted.{IsPartitionedBy, IsPartitionPoint}
 use Rattle.std.specs.FinMap.{entries, entries_sorted, same_entries_map, find, is_sorted, entries-from_sorted, get-from_sorted}
 use Rattle.std.specs.FinMap.Entries.{below_all}
+use Rattle.value_core.proofs.Bools.{first_true, second_true}
+use Rattle.value_core.proofs.PlaceLemmas.{is_Less}
+use Rattle.value_core.proofs.SortedEntries.{T_of, true_of}
 use Rattle.cell_names.specs.Accounts.{IsImplicit}
 use Rattle.ledger_state.specs.declared.holding.Holding.{Holding}
-use Rattle.ledger_state.specs.Ledger.{Ledger, Balances, AreBalances, Ascends, pair, balance, changed, supply}
+use Rattle.ledger_state.specs.Ledger.{Ledger, Balances, BalanceEntry, AreBalances, Ascends, pair, balance, changed, supply}
 use Rattle.ledger_state.specs.Holdings.{AreHoldings, balances_of, ledger_from, first_amount, is_below, is_not_below, kept, without}
-use Rattle.ledger_state.proofs.Ascending.{second_so, so_T, T_so, lt_is, below_all_less, are_below, find_past, is_sorted-drop}
-use Rattle.ledger_state.proofs.Changing.{R, o, Cell, set_all, set_all_step, kept_cell, without_cell, none_below, entries-changed, AreBalances-changed}
+use Rattle.ledger_state.proofs.Ascending.{below_all_less, are_below, find_past, is_sorted-drop}
+use Rattle.ledger_state.proofs.Changing.{R, o, set_all, set_all_step, kept_cell, without_cell, none_below, entries-changed, AreBalances-changed}
 
 pub entries-balances_of : (hs : List Holding) → Ascends hs → entries (balances_of hs) ≡ map pair hs
-entries-balances_of hs h = entries-from_sorted R (map pair hs) (so_T _ h)
+entries-balances_of hs h = entries-from_sorted R (map pair hs) (T_of _ h)
 
 pub Ascends-drop : (n : ℕ) (hs : List Holding) → Ascends hs → Ascends (drop n hs)
 Ascends-drop n hs s = ap (is_sorted R) (sym (drop-map pair n hs)) ∙ is_sorted-drop o n (map pair hs) s
@@ -48,25 +51,25 @@ pub same_ledgers : (level now level' now' : ℕ) (hs ks : List Holding) (heads b
     heads ≡ true → heads ≡ (eqb level level' && eqb now now') → Ascends hs → Ascends ks → (b ≡ true → hs ≡ ks) × (hs ≡ ks → b ≡ true) → (b ≡ true → s ≡ t) × (s ≡ t → b ≡ true)
 same_ledgers level now level' now' hs ks heads b s t is is' e heads-is a a' same =
     let both : (eqb level level' && eqb now now') ≡ true = sym heads-is ∙ e in
-    let levels : level ≡ level' = eqb-true level level' (first_so _ _ both) in
-    let times : now ≡ now' = eqb-true now now' (second_so _ _ both) in
+    let levels : level ≡ level' = eqb-true level level' (first_true _ _ both) in
+    let times : now ≡ now' = eqb-true now now' (second_true _ _ both) in
     ((λ h. sym is ∙ rw (levels, times, same.0 h) refl ∙ is'), (λ h. same.1 (same_balances hs ks a a' (ap (λ (l : Ledger). l.balances) (is ∙ h ∙ sym is')))))
 
 -- ---- where an address stands
 
 less_at : (k : List ℕ) (hs : List Holding) (j : ℕ) (d : Holding) → below_all R k (map pair hs) ≡ true → j < length hs → R k (get_or hs j d).address ≡ Less
 less_at k [] j d h lt = absurd (omega arith)
-less_at k (x ∷ hs) zero d h lt = lt_is _ (first_so _ _ h)
-less_at k (x ∷ hs) (suc j) d h lt = less_at k hs j d (second_so _ _ h) (omega arith)
+less_at k (x ∷ hs) zero d h lt = is_Less _ (first_true _ _ h)
+less_at k (x ∷ hs) (suc j) d h lt = less_at k hs j d (second_true _ _ h) (omega arith)
 
 pub below_is_partitioned : (a : List ℕ) (hs : List Holding) → Ascends hs → IsPartitionedBy (is_below a) hs
 below_is_partitioned a [] s i j d le lt p = absurd (omega arith)
 below_is_partitioned a (x ∷ hs) s zero zero d le lt p = p
 below_is_partitioned a (x ∷ hs) s zero (suc j) d le lt p =
-    let step : R x.address (get_or hs j d).address ≡ Less = less_at x.address hs j d (first_so _ _ s) (omega arith) in
-    ap is_lt (o.trans x.address (get_or hs j d).address a step (lt_is _ p))
+    let step : R x.address (get_or hs j d).address ≡ Less = less_at x.address hs j d (first_true _ _ s) (omega arith) in
+    ap is_lt (o.trans x.address (get_or hs j d).address a step (is_Less _ p))
 below_is_partitioned a (x ∷ hs) s (suc i) zero d le lt p = absurd (omega arith)
-below_is_partitioned a (x ∷ hs) s (suc i) (suc j) d le lt p = below_is_partitioned a hs (second_so _ _ s) i j d (omega arith) (omega arith) p
+below_is_partitioned a (x ∷ hs) s (suc i) (suc j) d le lt p = below_is_partitioned a hs (second_true _ _ s) i j d (omega arith) (omega arith) p
 
 pub below_in_front : (a : List ℕ) (hs : List Holding) (n : ℕ) → n ≤ length hs → IsPartitionPoint (λ h. is_below a h ≡ true) (λ h. is_below a h ≡ false) hs n → IsTrue (list_all (is_below a) (take n hs))
 below_in_front a hs n le p =
@@ -87,13 +90,13 @@ balance_behind : (hs : List Holding) (a : List ℕ) (n : ℕ) → Ascends hs →
 balance_behind hs a n s f =
     let front : are_below o a (map pair (take n hs)) ≡ true = list_all-map (λ e. is_lt (R e.0 a)) pair (take n hs) ∙ f in
     let parts : map pair hs ≡ map pair (take n hs) ++ map pair (drop n hs) = ap (map pair) (sym (take-append-drop n hs)) ∙ map-append pair (take n hs) (drop n hs) in
-    ap (λ x. unwrap_or x 0) (get-from_sorted R (map pair hs) a (so_T _ s) ∙ ap (find R a) parts ∙ find_past o a (map pair (take n hs)) (map pair (drop n hs)) front)
+    ap (λ x. unwrap_or x 0) (get-from_sorted R (map pair hs) a (T_of _ s) ∙ ap (find R a) parts ∙ find_past o a (map pair (take n hs)) (map pair (drop n hs)) front)
 
 find_above : (a : List ℕ) (hs : List Holding) → below_all R a (map pair hs) ≡ true → find R a (map pair hs) ≡ None
 find_above a [] h = refl
 find_above a (x ∷ hs) h =
-    let here : R a x.address ≡ Less = lt_is _ (first_so _ _ h) in
-    rw here (find_above a hs (second_so _ _ h))
+    let here : R a x.address ≡ Less = is_Less _ (first_true _ _ h) in
+    rw here (find_above a hs (second_true _ _ h))
 
 balance_here : (a : List ℕ) (hs : List Holding) → Ascends hs → IsTrue (list_all (is_not_below a) hs) → unwrap_or (find R a (map pair hs)) 0 ≡ first_amount a hs
 balance_here a [] s f = refl
@@ -107,8 +110,8 @@ balance_here a (x ∷ hs) s f =
       | Greater ↦ λ is n.
           let back : R a x.address ≡ Less = o.antisymm a x.address ∙ ap ordering_reverse is in
           let apart : bytes_eq x.address a ≡ false = sym (is_eq-slice_cmp x.address a) ∙ ap is_eq is in
-          rw (back, apart) (ap (λ x. unwrap_or x 0) (find_above a hs (below_all_less o a x.address (map pair hs) back (first_so _ _ s))))
-    ] refl (first_so _ _ f)
+          rw (back, apart) (ap (λ x. unwrap_or x 0) (find_above a hs (below_all_less o a x.address (map pair hs) back (first_true _ _ s))))
+    ] refl (first_true _ _ f)
 
 pub balance_is : (hs : List Holding) (a : List ℕ) (n : ℕ) → Ascends hs → IsTrue (list_all (is_below a) (take n hs)) → IsTrue (list_all (is_not_below a) (drop n hs)) → first_amount a (drop n hs) ≡ balance (balances_of hs) a
 balance_is hs a n s f g = sym (balance_behind hs a n s f ∙ balance_here a (drop n hs) (Ascends-drop n hs s) g)
@@ -125,7 +128,7 @@ pairs-without a (h ∷ hs) =
 
 pub Ascends-without : (a : List ℕ) (hs : List Holding) → Ascends hs → Ascends (without a hs)
 Ascends-without a [] s = s
-Ascends-without a (h ∷ hs) s = elim (bytes_eq h.address a) as (λ b. Ascends (cond b hs (h ∷ hs))) [ true ↦ second_so _ _ s | false ↦ s ]
+Ascends-without a (h ∷ hs) s = elim (bytes_eq h.address a) as (λ b. Ascends (cond b hs (h ∷ hs))) [ true ↦ second_true _ _ s | false ↦ s ]
 
 -- one change more
 pub merged_step : (out front back hs changes : List Holding) (c d : Holding) (i n : ℕ) (rest : List Holding) → Ascends rest → Ascends changes → i < length changes → c ≡ get_or changes i d → front ≡ take n rest → back ≡ drop n rest →
@@ -133,7 +136,7 @@ pub merged_step : (out front back hs changes : List Holding) (c d : Holding) (i 
     map pair out ++ set_all (map pair rest) (map pair (drop i changes)) ≡ set_all (map pair hs) (map pair changes) →
     map pair ((out ++ front) ++ kept c) ++ set_all (map pair (without c.address back)) (map pair (drop (i + 1) changes)) ≡ set_all (map pair hs) (map pair changes)
 merged_step out front back hs changes c d i n rest s t lt is f b below above so_far =
-    let later : List Cell = map pair (drop (i + 1) changes) in
+    let later : List BalanceEntry = map pair (drop (i + 1) changes) in
     let head : drop i changes ≡ c ∷ drop (i + 1) changes = rw (is, add-one) (drop-cons changes i d lt) in
     let back_ascends : is_sorted R (map pair back) ≡ true = subst Ascends (sym b) (Ascends-drop n rest s) in
     let changes_ascend : is_sorted R (pair c ∷ later) ≡ true = subst Ascends head (Ascends-drop i changes t) in
@@ -162,7 +165,7 @@ merged_end out rest hs changes i s le so_far =
 
 pub balances_are : (hs : List Holding) (m : Balances) → map pair hs ≡ entries m → Ascends hs × (balances_of hs ≡ m)
 balances_are hs m e =
-    let ascend : Ascends hs = ap (is_sorted R) e ∙ T_so _ (entries_sorted m) in
+    let ascend : Ascends hs = ap (is_sorted R) e ∙ true_of _ (entries_sorted m) in
     (ascend, same_entries_map (balances_of hs) m (entries-balances_of hs ascend ∙ e))
 
 pub AreHoldings-from : (hs : List Holding) (m : Balances) → map pair hs ≡ entries m → AreBalances m → AreHoldings hs

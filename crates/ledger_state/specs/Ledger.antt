@@ -1,4 +1,4 @@
--- Ledgers: a level, a time, and what each account has.
+-- Ledgers: a level, a now, and what each account has.
 use Rattle.std.specs.Prelude.{ℕ, ◌<◌, ◌^◌, ◌==◌, if◌then◌else◌, List, [], ◌∷◌, All, sum, map, IsTrue, unwrap_or, refl}
 use Rattle.std.specs.Ordering.{nat_cmp}
 use Rattle.std.specs.Cmp.Lexicographic.{slice_cmp}
@@ -10,6 +10,10 @@ use Rattle.ledger_state.specs.declared.holding.Holding.{Holding}
 -- what each account has, by its address
 abbrev pub Balances : Type 0
 Balances = FinMap (slice_cmp nat_cmp) ℕ
+
+-- an entry of balances: an address with what it has
+abbrev pub BalanceEntry : Type 0
+BalanceEntry = List ℕ × ℕ
 
 -- what an account has; a balance of 0 is an absent one
 abbrev pub balance : Balances → List ℕ → ℕ
@@ -40,8 +44,8 @@ pub record AreBalances (m : Balances) : Type 0 where
   pub funded : All (λ n. 0 < n) (values m)
   pub within : supply m < 2 ^ 63
 
--- the pair that stands for a holding in balances
-abbrev pub pair : Holding → List ℕ × ℕ
+-- the entry that stands for a holding in balances
+abbrev pub pair : Holding → BalanceEntry
 pair h = (h.address, h.amount)
 
 -- the addresses strictly rise

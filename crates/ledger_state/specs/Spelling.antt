@@ -3,17 +3,17 @@ use Rattle.std.specs.Prelude.{ℕ, ◌<◌, ◌^◌, List, [], ◌∷◌, ◌++�
 use Rattle.std.specs.List.{flat_map}
 use Rattle.std.specs.Int.{w32, w64, to_be_bytes}
 use Rattle.std.specs.FinMap.{entries, len}
-use Rattle.ledger_state.specs.Ledger.{Ledger, AreBalances}
+use Rattle.ledger_state.specs.Ledger.{Ledger, BalanceEntry, AreBalances}
 
 -- 'FJS1'
 abbrev pub magic : List ℕ
 magic = 0x46 ∷ 0x4a ∷ 0x53 ∷ 0x31 ∷ []
 
 -- a cell's name, the tag of a balance and the address, and its value, the tag of an amount and the amount
-abbrev pub cell : List ℕ × ℕ → List ℕ
+abbrev pub cell : BalanceEntry → List ℕ
 cell e = (0 ∷ e.0) ++ (5 ∷ to_be_bytes w64 e.1)
 
--- magic, level, time, no contracts, the number of cells, and the cells in the order of their addresses
+-- magic, level, now, no contracts, the number of cells, and the cells in the order of their addresses
 abbrev pub spelling : Ledger → List ℕ
 spelling s =
     magic ++ to_be_bytes w32 s.level ++ to_be_bytes w64 s.now ++ to_be_bytes w32 0

@@ -2,6 +2,9 @@
 
 use value_core::Address;
 
+/// How many bytes a holding takes in a file: the cell and its value.
+pub(crate) const CELL: usize = 32;
+
 /// The balance of an account.
 #[derive(Clone, Copy, Debug, PartialEq, Eq)]
 pub struct Holding {

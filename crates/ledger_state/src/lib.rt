@@ -1,4 +1,4 @@
-//! Ledgers: a level, a time and what each account has, and the file that holds one.
+//! Ledgers: a level, a `now` and what each account has, and the file that holds one.
 //!
 //! A `State` is a list of holdings, strictly ascending by address, that contracts see as a finite
 //! map from addresses to amounts (`specs/Ledger.antt`). An account that isn't there has 0; the

@@ -11,16 +11,13 @@ ghost use Rattle.ledger_state.specs.Holdings.{AreHoldings, ledger_from};
 ghost use Rattle.ledger_state.specs.Reading.{amount, amount_of, book, cells, contracts, holding, ledger, ledger_of, name};
 ghost use Rattle.ledger_state.specs.Spelling.{IsLedger, spelling};
 
-use crate::holding::Holding;
+use crate::holding::{CELL, Holding};
 use crate::state::State;
 use byte_fields::{mark_of, u32_at, u64_at};
 use cell_names::{Cell, FieldStop, FormatFault, FormatStop, Head, cell_at, fault_at};
 use std::alloc::Global;
 use value_codec::{ANY_VALUE, value_at};
 use value_core::{Address, Val};
-
-/// The bytes of a cell and its value.
-const CELL: usize = 32;
 
 fn stands_above(last: Option<Address>, address: &Address) -> bool
     ensures { result ≡ is_above (option_map Balance last) (Balance address.now) }

@@ -43,7 +43,7 @@ impl State {
         State { head, holdings }
     }
 
-    /// The level and the time.
+    /// The level and `now`.
     pub fn head(&self) -> Head
         ensures level { result.level ≡ self.now.level }
         ensures now { result.now ≡ self.now.now }

@@ -1,18 +1,22 @@
 //! Writing a ledger's file.
 
-ghost use Rattle.std.specs.Prelude.{◌≡◌, ◌<◌, ◌^◌, ◌++◌, map, OnOk, IfOk};
+ghost use Rattle.std.specs.Prelude.{◌≡◌, ◌+◌, ◌*◌, ◌<◌, ◌≤◌, ◌^◌, ◌++◌, length, map, OnOk, IfOk};
 ghost use Rattle.std.specs.List.{flat_map};
 ghost use Rattle.std.specs.FinMap.{len};
 ghost use Rattle.ledger_state.specs.Ledger.{pair};
 ghost use Rattle.ledger_state.specs.Spelling.{cell, spelling};
 
-use crate::holding::Holding;
+use crate::holding::{CELL, Holding};
 use crate::state::State;
 use cell_names::NoMemory;
 use std::alloc::Global;
 
-/// The bytes of a cell.
-const CELL: usize = 32;
+/// Room for the fields in front and all cells.
+fn capacity(holdings: &[Holding]) -> usize
+    ensures { result ≤ 32 * length holdings.now + 24 }
+{
+    holdings.len().saturating_mul(CELL).saturating_add(24)
+}
 
 fn put_cell(out: &mut Vec<u8>, holding: &Holding) -> Result<(), NoMemory>
     ensures { OnOk result (out.new.items ≡ out.old.items ++ cell (pair holding.now)) }
@@ -40,10 +44,7 @@ pub fn write_state(alloc: Global, state: &State) -> Result<Vec<u8>, NoMemory>
 {
     let head = state.head();
     let holdings = state.holdings();
-    let mut out = Vec::with_capacity(
-        alloc,
-        holdings.len().saturating_mul(CELL).saturating_add(24),
-    )?;
+    let mut out = Vec::with_capacity(alloc, capacity(holdings))?;
     out.extend_from_slice(b"FJS1")?;
     out.extend_from_slice(&head.level.to_be_bytes())?;
     out.extend_from_slice(&head.now.to_be_bytes())?;

@@ -2,9 +2,9 @@
 ghost use Rattle.std.specs.Prelude.{◌≡◌, ◌++◌, ◌∷◌, [], ℕ, ◌<◌, List, length, IfOk, OnOk, slice_index_or};
 ghost use Rattle.sha2.specs.Sha256.{sha256};
 ghost use Rattle.sha2.specs.Hashers.{Holds256};
-ghost use Rattle.ledger_state.specs.Ledger.{pair};
+ghost use Rattle.ledger_state.specs.Ledger.{BalanceEntry, pair};
 ghost use Rattle.ledger_state.specs.Spelling.{cell};
-ghost use Rattle.state_digest.specs.Digest.{Entry, cell_name, bucket_of, bucket_digests};
+ghost use Rattle.state_digest.specs.Digest.{cell_name, bucket_of, bucket_digests};
 ghost use Rattle.state_digest.specs.Buckets.{HoldBuckets};
 
 use ledger_state::{Holding, NoMemory};
@@ -59,7 +59,7 @@ fn feed(hasher: &mut Sha256, holding: &Holding)
 /// Adds a cell to its bucket.
 pub(crate) fn put_cell(hashers: &mut Vec<Sha256>, holding: &Holding)
     requires { length hashers.old.items ≡ 256 }
-    ensures { (es : List Entry) → HoldBuckets hashers.old.items es
+    ensures { (es : List BalanceEntry) → HoldBuckets hashers.old.items es
         → HoldBuckets hashers.new.items (es ++ pair holding.now ∷ []) }
 {
     let k = bucket(holding.address.bytes()) as usize;
@@ -69,7 +69,7 @@ pub(crate) fn put_cell(hashers: &mut Vec<Sha256>, holding: &Holding)
 #[tactic(auto, unfolding(crate::specs::Digest::bucket_digests))]
 /// Adds the digests of all buckets to a hasher.
 pub(crate) fn hash_buckets(hasher: &mut Sha256, hashers: &[Sha256]) -> Result<(), NoMemory>
-    ensures { OnOk result ((m : List ℕ) (es : List Entry)
+    ensures { OnOk result ((m : List ℕ) (es : List BalanceEntry)
         → Holds256 hasher.old m → HoldBuckets hashers.now es
         → Holds256 hasher.new (m ++ bucket_digests 256 es)) }
 {

@@ -1,24 +1,33 @@
 //! Digests of small states, as Python's hashlib gives them.
 
 use crate::digest;
-use ledger_state::read_state;
+use ledger_state::{State, read_state};
+use std::alloc::Global;
 use std::test::Fail;
 
-// No balances.
-const NOTHING: &[u8] =
-    b"FJS1\x00\x00\x00\x00\x00\x00\x00\x00\x00\x00\x00\x00\x00\x00\x00\x00\x00\x00\x00\x00";
+// The kind of a balance's cell and the tag of an amount, as docs/FORMATS.md numbers them.
+const BALANCE: u8 = 0x00;
 
-// 0a has 100 and 0c has 50.
-const TWO: &[u8] =
-    b"FJS1\x00\x00\x00\x00\x00\x00\x00\x00\x00\x00\x00\x00\x00\x00\x00\x00\x00\x00\x00\x02\x00\x00\x00\x00\x00\x00\x00\x00\x00\x00\x00\x00\x00\x00\x00\x00\x00\x00\x00\x00\x00\x00\x0a\x05\x00\x00\x00\x00\x00\x00\x00d\x00\x00\x00\x00\x00\x00\x00\x00\x00\x00\x00\x00\x00\x00\x00\x00\x00\x00\x00\x00\x00\x00\x0c\x05\x00\x00\x00\x00\x00\x00\x002";
+const MUTEZ: u8 = 0x05;
 
-// The same at level 7 and time 60.
-const TWO_LATER: &[u8] =
-    b"FJS1\x00\x00\x00\x07\x00\x00\x00\x00\x00\x00\x00<\x00\x00\x00\x00\x00\x00\x00\x02\x00\x00\x00\x00\x00\x00\x00\x00\x00\x00\x00\x00\x00\x00\x00\x00\x00\x00\x00\x00\x00\x00\x0a\x05\x00\x00\x00\x00\x00\x00\x00d\x00\x00\x00\x00\x00\x00\x00\x00\x00\x00\x00\x00\x00\x00\x00\x00\x00\x00\x00\x00\x00\x00\x0c\x05\x00\x00\x00\x00\x00\x00\x002";
-
-// 0a has 90, 0b has 10 and 0c has 50.
-const THREE: &[u8] =
-    b"FJS1\x00\x00\x00\x00\x00\x00\x00\x00\x00\x00\x00\x00\x00\x00\x00\x00\x00\x00\x00\x03\x00\x00\x00\x00\x00\x00\x00\x00\x00\x00\x00\x00\x00\x00\x00\x00\x00\x00\x00\x00\x00\x00\x0a\x05\x00\x00\x00\x00\x00\x00\x00Z\x00\x00\x00\x00\x00\x00\x00\x00\x00\x00\x00\x00\x00\x00\x00\x00\x00\x00\x00\x00\x00\x00\x0b\x05\x00\x00\x00\x00\x00\x00\x00\x0a\x00\x00\x00\x00\x00\x00\x00\x00\x00\x00\x00\x00\x00\x00\x00\x00\x00\x00\x00\x00\x00\x00\x0c\x05\x00\x00\x00\x00\x00\x00\x002";
+// The state in which accounts of these last bytes have so much.
+fn state(alloc: Global, level: u32, now: u64, holdings: &[(u8, u64)]) -> Result<State, Fail> {
+    let count = u32::try_from(holdings.len()).ok().ok_or("too many")?;
+    let mut file = Vec::new(alloc);
+    file.extend_from_slice(b"FJS1")?;
+    file.extend_from_slice(&level.to_be_bytes())?;
+    file.extend_from_slice(&now.to_be_bytes())?;
+    file.extend_from_slice(&0u32.to_be_bytes())?;
+    file.extend_from_slice(&count.to_be_bytes())?;
+    for (last, amount) in holdings {
+        file.push(BALANCE)?;
+        file.extend_from_slice(&[0; 21])?;
+        file.push(*last)?;
+        file.push(MUTEZ)?;
+        file.extend_from_slice(&amount.to_be_bytes())?;
+    }
+    Ok(read_state(alloc, &file)?)
+}
 
 const DIGEST_OF_NOTHING: [u8; 32] = [
     0xb9, 0xb4, 0xc0, 0x4d, 0x7a, 0xb6, 0x87, 0x9d, 0x5f, 0x53, 0xa3, 0xb8, 0x71, 0xc8, 0x99, 0x21,
@@ -37,15 +46,17 @@ const DIGEST_OF_THREE: [u8; 32] = [
 
 #[test]
 fn a_digest_is_that_of_the_balances(rt: HostRuntime) -> Result<(), Fail> {
-    let rows = [
-        (NOTHING, DIGEST_OF_NOTHING),
-        (TWO, DIGEST_OF_TWO),
-        (TWO_LATER, DIGEST_OF_TWO),
-        (THREE, DIGEST_OF_THREE),
+    let two = [(0x0a, 100), (0x0c, 50)];
+    let three = [(0x0a, 90), (0x0b, 10), (0x0c, 50)];
+    let rows: [(u32, u64, &[(u8, u64)], [u8; 32]); 4] = [
+        (0, 0, &[], DIGEST_OF_NOTHING),
+        (0, 0, &two, DIGEST_OF_TWO),
+        (7, 60, &two, DIGEST_OF_TWO),
+        (0, 0, &three, DIGEST_OF_THREE),
     ];
-    for (bytes, want) in rows.iter() {
-        let state = read_state(rt.alloc(), bytes).expect(&rt, "a state");
-        assert_eq!(rt; digest(rt.alloc(), &state)?, *want);
+    for (level, now, holdings, want) in rows {
+        let state = state(rt.alloc(), level, now, holdings)?;
+        assert_eq!(rt; digest(rt.alloc(), &state)?, want);
     }
     Ok(())
 }

@@ -1,5 +1,5 @@
 -- The clauses of a footprint, by what is told of it.
-use Rattle.std.proofs.Common.{◌≡◌, ℕ, ◌≤◌, List, length, drop, Result, Ok, Err, sym, ap, subst, ◌∙◌, arith}
+use Rattle.std.proofs.Common.{◌≡◌, ℕ, ◌≤◌, List, length, drop, Result, Err, ap, subst, ◌∙◌, arith}
 use Rattle.byte_fields.specs.Stops.{NotYet, Stopped}
 use Rattle.byte_fields.specs.Told.{AnswersUnlessFull, placed}
 use Rattle.byte_fields.specs.Laws.{IsBytes}

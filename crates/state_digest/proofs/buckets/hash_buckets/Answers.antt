@@ -3,10 +3,11 @@ use Rattle.std.proofs.Common.{arith, ◌≡◌, ◌++◌, ℕ, ◌<◌, List, �
 use Rattle.sha2.specs.Sha256.{sha256}
 use Rattle.sha2.specs.declared.Sha256.{Sha256}
 use Rattle.sha2.specs.Hashers.{Holds256}
-use Rattle.state_digest.specs.Digest.{Entry, bucket_digests, bucket_text}
+use Rattle.ledger_state.specs.Ledger.{BalanceEntry}
+use Rattle.state_digest.specs.Digest.{bucket_digests, bucket_text}
 use Rattle.state_digest.proofs.buckets.hash_buckets.Goals as goal
 
-bucket_digests-more : (m : List ℕ) (n : ℕ) (es : List Entry) → m ++ bucket_digests (n + 1) es ≡ (m ++ bucket_digests n es) ++ sha256 (bucket_text n es)
+bucket_digests-more : (m : List ℕ) (n : ℕ) (es : List BalanceEntry) → m ++ bucket_digests (n + 1) es ≡ (m ++ bucket_digests n es) ++ sha256 (bucket_text n es)
 unfolding bucket_digests
 bucket_digests-more m n es = rw add-one (rw append_assoc)
 
