@@ -15,8 +15,8 @@
 //! - `cursor`: `Cursor`, which takes fields from the front of bytes.
 //! - `slot`, `slots`: one name of `MemFiles`, and the list of them. `calls`: which calls fail.
 //!
-//! The clauses are the relations of `specs/Outside.antt`: `ReadsFile`, `MakesRoom`, `WritesFile` and
-//! `TakesPiece`. Calls that take memory have `alloc`, and change nothing where it runs out.
+//! The clauses are the relations of `specs/Outside.antt`: `ReadsFile`, `MakesRoom`, `WritesFile`
+//! and `TakesPiece`. Calls that take memory have `alloc`, and change nothing where it runs out.
 //! What files and a sink in memory do is said exactly, in `specs/Shelf.antt` and
 //! `specs/Buffer.antt`.
 #![tactic(auto)]

@@ -1,5 +1,5 @@
 -- Lists of entries in the order of their keys, when one is put or taken out: their total, and what holds of each.
-use Rattle.std.proofs.Common.{◌≡◌, ℕ, ◌+◌, Bool, true, false, not, cond, ◌&&◌, T, List, [], ◌∷◌, map, refl, sym, ap, subst, ◌∙◌, arith}
+use Rattle.std.proofs.Common.{◌≡◌, ℕ, ◌+◌, true, false, not, cond, T, List, [], ◌∷◌, map, refl, sym, ap, subst, ◌∙◌, arith}
 use Rattle.std.specs.Prelude.{Option, Some, None, unwrap_or, sum, IfSome}
 use Rattle.std.specs.declared.cmp.Ordering.{Ordering}
 use Rattle.std.specs.declared.cmp.Ordering.TheVariants.{Less, Equal, Greater}
@@ -9,6 +9,7 @@ use Rattle.std.specs.List.{AllByRecursion}
 use Rattle.std.specs.FinMap.Entries.{by_order, put, where_key, find, below_all, is_sorted}
 use Rattle.std.proofs.lemmas.List.Recursion.{is_sum_by}
 use Rattle.std.proofs.lemmas.List.Sums.{sum-map}
+use Rattle.value_core.proofs.SortedEntries.{left, right}
 
 -- the values together
 abbrev pub total : {K : Type 0} → List (K × ℕ) → ℕ
@@ -17,14 +18,6 @@ total (e ∷ es) = e.1 + total es
 
 pub total_is : {K : Type 0} (es : List (K × ℕ)) → sum (map (λ e. e.1) es) ≡ total es
 total_is es = sum-map (λ e. e.1) es ∙ sym (is_sum_by total (λ e. e.1) refl (λ _ _. refl) es)
-
-pub left : (a b : Bool) → T (a && b) → T a
-left true b h = tt
-left false b h = absurd h
-
-pub right : (a b : Bool) → T (a && b) → T b
-right true b h = h
-right false b h = absurd h
 
 is_less : (r : Ordering) → T (is_lt r) → r ≡ Less
 is_less Less h = refl
@@ -37,11 +30,6 @@ is_equal Equal e = refl
 is_equal Greater e = cc
 
 module _ {K X : Type 0} {R : K → K → Ordering} (o : IsTotalOrder R) where
-  -- a key that isn't above those before all entries isn't found in them
-  pub find-below : (k : K) (es : List (K × X)) → T (below_all R k es) → find R k es ≡ None
-  find-below k [] h = refl
-  find-below k (e ∷ es) h = ap (λ r. cond (is_eq r) (Some e.1) (find R k es)) (is_less _ (left _ _ h)) ∙ find-below k es (right _ _ h)
-
   below_less : (k x : K) (es : List (K × X)) → R k x ≡ Less → T (below_all R x es) → find R k es ≡ None
   below_less k x [] p h = refl
   below_less k x (e ∷ es) p h = ap (λ r. cond (is_eq r) (Some e.1) (find R k es)) (o.trans k x e.0 p (is_less _ (left _ _ h))) ∙ below_less k x es p (right _ _ h)

@@ -13,12 +13,13 @@ use Rattle.std.specs.declared.cmp.Ordering.TheVariants.{Less}
 use Rattle.std.specs.Map.{lookup}
 use Rattle.std.specs.FinMap.{get, same_map, find, is_sorted}
 use Rattle.std.specs.FinMap.Entries.{below_all}
-use Rattle.plain_transfers.proofs.Entries.{below_tied, left, right, is_equal}
 use Rattle.std.proofs.lemmas.Bool.{eqb-true}
 use Rattle.std.proofs.lemmas.Map.Keys.{sorted_head, sorted_tail}
-use Rattle.ledger_state.specs.Ledger.{Balances, balance, with_balance, changed, pair, Ascends}
+use Rattle.value_core.proofs.SortedEntries.{left, right, true_of}
+use Rattle.ledger_state.specs.Ledger.{BalanceEntry, Balances, balance, with_balance, changed, pair, Ascends}
 use Rattle.ledger_state.specs.declared.holding.Holding.{Holding}
-use Rattle.plain_transfers.specs.Changes.{Entry, over, holding_of}
+use Rattle.plain_transfers.specs.Changes.{over, holding_of}
+use Rattle.plain_transfers.proofs.Entries.{below_tied, is_equal}
 use Rattle.plain_transfers.proofs.Balances.{same_key, keys_differ, held, get-with_balance}
 
 -- an amount that was written, or else what was there
@@ -30,17 +31,17 @@ cond-written : (b : Bool) (n : ℕ) (f o : Option ℕ) → cond b (held n) (writ
 cond-written true n f o = refl
 cond-written false n f o = refl
 
-pub get-over : (m : Balances) (es : List Entry) (q : List ℕ) → get (over m es) q ≡ written (find (slice_cmp nat_cmp) q es) (get m q)
+pub get-over : (m : Balances) (es : List BalanceEntry) (q : List ℕ) → get (over m es) q ≡ written (find (slice_cmp nat_cmp) q es) (get m q)
 get-over m [] q = refl
 get-over m (e ∷ es) q = get-with_balance (over m es) e.0 e.1 q ∙ ap (cond (same_key q e.0) (held e.1)) (get-over m es q) ∙ cond-written (same_key q e.0) e.1 _ _
 
 -- a look-up in an ordered map is one in its entries
-pub lookup-find : (q : List ℕ) (es : List Entry) → lookup (is_at (slice_cmp nat_cmp q)) es ≡ find (slice_cmp nat_cmp) q es
+pub lookup-find : (q : List ℕ) (es : List BalanceEntry) → lookup (is_at (slice_cmp nat_cmp q)) es ≡ find (slice_cmp nat_cmp) q es
 lookup-find q [] = refl
 lookup-find q (e ∷ es) = ap (cond (same_key q e.0) (Some e.1)) (lookup-find q es)
 
 -- one more change is one more balance that is another
-pub over-written : (m : Balances) (old new : List Entry) (a : List ℕ) (n : ℕ)
+pub over-written : (m : Balances) (old new : List BalanceEntry) (a : List ℕ) (n : ℕ)
     → ((q : List ℕ) → lookup (is_at (slice_cmp nat_cmp q)) new ≡ cond (same_key a q) (Some n) (lookup (is_at (slice_cmp nat_cmp q)) old))
     → over m new ≡ with_balance (over m old) a n
 over-written m old new a n updates =
@@ -56,11 +57,11 @@ held-unwrap_or : (n : ℕ) → unwrap_or (held n) 0 ≡ n
 held-unwrap_or n = elim (n == 0) as (λ b. (n == 0) ≡ b → unwrap_or (if b then None else Some n) 0 ≡ n) [ true ↦ λ e. sym (eqb-true n 0 e) | false ↦ λ _. refl ] refl
 
 -- what an account has, where it changed and where it didn't
-pub balance-over_some : (m : Balances) (es : List Entry) (a : List ℕ) (n : ℕ) → lookup (is_at (slice_cmp nat_cmp a)) es ≡ Some n → balance (over m es) a ≡ n
+pub balance-over_some : (m : Balances) (es : List BalanceEntry) (a : List ℕ) (n : ℕ) → lookup (is_at (slice_cmp nat_cmp a)) es ≡ Some n → balance (over m es) a ≡ n
 balance-over_some m es a n found =
     ap (λ o. unwrap_or o 0) (get-over m es a ∙ ap (λ f. written f (get m a)) (sym (lookup-find a es) ∙ found)) ∙ held-unwrap_or n
 
-pub balance-over_none : (m : Balances) (es : List Entry) (a : List ℕ) → lookup (is_at (slice_cmp nat_cmp a)) es ≡ None → balance (over m es) a ≡ balance m a
+pub balance-over_none : (m : Balances) (es : List BalanceEntry) (a : List ℕ) → lookup (is_at (slice_cmp nat_cmp a)) es ≡ None → balance (over m es) a ≡ balance m a
 balance-over_none m es a none =
     ap (λ o. unwrap_or o 0) (get-over m es a ∙ ap (λ f. written f (get m a)) (sym (lookup-find a es) ∙ none))
 
@@ -82,7 +83,7 @@ pub changed-over : (m : Balances) (hs : List Holding) → T (is_sorted (slice_cm
 changed-over m hs ordered =
     same_map nat_list_cmp_total keys_differ (changed m hs) (over m (map pair hs)) (λ q. get-changed m hs q ordered ∙ sym (get-over m (map pair hs) q))
 
-below_from_keys : (k : List ℕ) (es : List Entry) → AllByRecursion (λ y. slice_cmp nat_cmp k y ≡ Less) (map (λ e. e.0) es) → T (below_all (slice_cmp nat_cmp) k es)
+below_from_keys : (k : List ℕ) (es : List BalanceEntry) → AllByRecursion (λ y. slice_cmp nat_cmp k y ≡ Less) (map (λ e. e.0) es) → T (below_all (slice_cmp nat_cmp) k es)
 below_from_keys k [] all = tt
 below_from_keys k (e ∷ es) all = subst (λ r. T (is_lt r && below_all (slice_cmp nat_cmp) k es)) (sym all.0) (below_from_keys k es all.1)
 
@@ -91,31 +92,27 @@ both true b h g = g
 both false b h g = absurd h
 
 -- the entries of an ordered map are in order
-pub is_sorted_from_keys : (es : List Entry) → IsStrictlySortedBy (slice_cmp nat_cmp) (map (λ e. e.0) es) → T (is_sorted (slice_cmp nat_cmp) es)
+pub is_sorted_from_keys : (es : List BalanceEntry) → IsStrictlySortedBy (slice_cmp nat_cmp) (map (λ e. e.0) es) → T (is_sorted (slice_cmp nat_cmp) es)
 is_sorted_from_keys [] ordered = tt
 is_sorted_from_keys (e ∷ es) ordered =
     both _ _ (below_from_keys e.0 es (sorted_head (slice_cmp nat_cmp) e.0 (map (λ e. e.0) es) ordered))
     (is_sorted_from_keys es (sorted_tail (slice_cmp nat_cmp) e.0 (map (λ e. e.0) es) ordered))
 
-pub pairs_of_holdings : (es : List Entry) → map pair (map holding_of es) ≡ es
+pub pairs_of_holdings : (es : List BalanceEntry) → map pair (map holding_of es) ≡ es
 pairs_of_holdings [] = refl
 pairs_of_holdings (e ∷ es) = ap (λ l. e ∷ l) (pairs_of_holdings es)
 
-true_from : (b : Bool) → T b → b ≡ true
-true_from true h = refl
-true_from false h = absurd h
-
 -- the entries of an ordered map, as holdings, ascend
-pub Ascends-holdings : (es : List Entry) → IsStrictlySortedBy (slice_cmp nat_cmp) (map (λ e. e.0) es) → Ascends (map holding_of es)
-Ascends-holdings es ordered = subst (λ ps. is_sorted (slice_cmp nat_cmp) ps ≡ true) (sym (pairs_of_holdings es)) (true_from _ (is_sorted_from_keys es ordered))
+pub Ascends-holdings : (es : List BalanceEntry) → IsStrictlySortedBy (slice_cmp nat_cmp) (map (λ e. e.0) es) → Ascends (map holding_of es)
+Ascends-holdings es ordered = subst (λ ps. is_sorted (slice_cmp nat_cmp) ps ≡ true) (sym (pairs_of_holdings es)) (true_of _ (is_sorted_from_keys es ordered))
 
-pub over-holdings : (m : Balances) (es : List Entry) → Ascends (map holding_of es) → changed m (map holding_of es) ≡ over m es
+pub over-holdings : (m : Balances) (es : List BalanceEntry) → Ascends (map holding_of es) → changed m (map holding_of es) ≡ over m es
 over-holdings m es ascend = changed-over m (map holding_of es) (passes _ ascend) ∙ ap (over m) (pairs_of_holdings es)
 
-all_holdings : (P : List ℕ → Type 0) (es : List Entry) → AllByRecursion P (map (λ e. e.0) es) → AllByRecursion (λ h. P h.address) (map holding_of es)
+all_holdings : (P : List ℕ → Type 0) (es : List BalanceEntry) → AllByRecursion P (map (λ e. e.0) es) → AllByRecursion (λ h. P h.address) (map holding_of es)
 all_holdings P [] all = tt
 all_holdings P (e ∷ es) all = (all.0, all_holdings P es all.1)
 
 -- what holds of each key holds of each holding's address
-pub All-holdings : (P : List ℕ → Type 0) (es : List Entry) → All P (map (λ e. e.0) es) → All (λ h. P h.address) (map holding_of es)
+pub All-holdings : (P : List ℕ → Type 0) (es : List BalanceEntry) → All P (map (λ e. e.0) es) → All (λ h. P h.address) (map holding_of es)
 All-holdings P es all = All-from_recursion _ _ (all_holdings P es (recursion_from_All _ _ all))

@@ -6,7 +6,7 @@ use Rattle.std.proofs.lemmas.Bool.{ltb-false}
 use Rattle.ledger_state.specs.Ledger.{Balances, AreBalances, balance, supply}
 use Rattle.block_codec.specs.declared.transfer.Transfer.{Transfer}
 use Rattle.plain_transfers.specs.Serial.{serial}
-use Rattle.plain_transfers.specs.Run.{IsPlain, run_all}
+use Rattle.plain_transfers.specs.Run.{IsPlain, run_on}
 use Rattle.plain_transfers.proofs.Cases.{unmoved, failed, paid}
 use Rattle.plain_transfers.proofs.Paying.{supply-paid, AreBalances-paid}
 
@@ -29,15 +29,15 @@ serial_keeps m t lawful plain =
           ] refl
     ]
 
-run_keeps : (m : Balances) (ops : List Transfer) → AreBalances m → AllByRecursion IsPlain ops → Keeps m (run_all m ops).balances
+run_keeps : (m : Balances) (ops : List Transfer) → AreBalances m → AllByRecursion IsPlain ops → Keeps m (run_on m ops).balances
 run_keeps m [] lawful plain = record { supplies = refl; lawful = lawful }
 run_keeps m (t ∷ ts) lawful plain =
     let first = serial_keeps m t lawful plain.0 in
     let rest = run_keeps (serial m t).balances ts first.lawful plain.1 in
     record { supplies = rest.supplies ∙ first.supplies; lawful = rest.lawful }
 
-pub supply-run_all : (m : Balances) (ops : List Transfer) → AreBalances m → AllByRecursion IsPlain ops → supply (run_all m ops).balances ≡ supply m
-supply-run_all m ops lawful plain = (run_keeps m ops lawful plain).supplies
+pub supply-run_on : (m : Balances) (ops : List Transfer) → AreBalances m → AllByRecursion IsPlain ops → supply (run_on m ops).balances ≡ supply m
+supply-run_on m ops lawful plain = (run_keeps m ops lawful plain).supplies
 
-pub AreBalances-run_all : (m : Balances) (ops : List Transfer) → AreBalances m → AllByRecursion IsPlain ops → AreBalances (run_all m ops).balances
-AreBalances-run_all m ops lawful plain = (run_keeps m ops lawful plain).lawful
+pub AreBalances-run_on : (m : Balances) (ops : List Transfer) → AreBalances m → AllByRecursion IsPlain ops → AreBalances (run_on m ops).balances
+AreBalances-run_on m ops lawful plain = (run_keeps m ops lawful plain).lawful

@@ -1,14 +1,14 @@
 //! What transfers keep.
 ghost use Rattle.std.specs.Prelude.{◌≡◌, List};
 ghost use Rattle.std.specs.List.{AllByRecursion};
-ghost use Rattle.ledger_state.specs.Ledger.{AreBalances, Balances, supply};
+ghost use Rattle.ledger_state.specs.Ledger.{AreBalances, Ledger, supply};
 ghost use Rattle.block_codec.specs.declared.transfer.Transfer.{Transfer};
 ghost use Rattle.plain_transfers.specs.Run.{IsPlain, run_all};
 
 /// After every transfer there is as much as before, and the balances are lawful.
 pub fn supply_is_kept()
-    ensures supply { (m : Balances) (ops : List Transfer) → AreBalances m
-        → AllByRecursion IsPlain ops → supply (run_all m ops).balances ≡ supply m }
-    ensures lawful { (m : Balances) (ops : List Transfer) → AreBalances m
-        → AllByRecursion IsPlain ops → AreBalances (run_all m ops).balances }
+    ensures supply { (s : Ledger) (ops : List Transfer) → AreBalances s.balances
+        → AllByRecursion IsPlain ops → supply (run_all s ops).balances ≡ supply s.balances }
+    ensures lawful { (s : Ledger) (ops : List Transfer) → AreBalances s.balances
+        → AllByRecursion IsPlain ops → AreBalances (run_all s ops).balances }
 {}

@@ -6,21 +6,44 @@ ghost use Rattle.cell_names.specs.Accounts.{IsImplicit};
 use crate::{Overlay, supply_is_kept};
 use block_codec::Transfer;
 use cell_names::{Cell, Footprint, Mode};
-use ledger_state::{Head, read_state};
+use ledger_state::{Head, State, read_state};
 use std::alloc::Global;
 use std::test::Fail;
 use value_core::Address;
 
-const STATE: &[u8] =
-    b"FJS1\x00\x00\x00\x00\x00\x00\x00\x00\x00\x00\x00\x00\x00\x00\x00\x00\x00\x00\x00\x02\x00\x00\x00\x00\x00\x00\x00\x00\x00\x00\x00\x00\x00\x00\x00\x00\x00\x00\x00\x00\x00\x00\x0a\x05\x00\x00\x00\x00\x00\x00\x00d\x00\x00\x00\x00\x00\x00\x00\x00\x00\x00\x00\x00\x00\x00\x00\x00\x00\x00\x00\x00\x00\x00\x0c\x05\x00\x00\x00\x00\x00\x00\x002";
+// The kind of a balance's cell and the tag of an amount, as docs/FORMATS.md numbers them.
+const BALANCE: u8 = 0x00;
 
+const MUTEZ: u8 = 0x05;
+
+// The address of an implicit account: 21 bytes 00 and a last byte.
 fn account(last: u8) -> Result<Address, Fail>
     ensures { IfOk result (λ a. IsImplicit a) }
 {
     let bytes = [
         0, 0, 0, 0, 0, 0, 0, 0, 0, 0, 0, 0, 0, 0, 0, 0, 0, 0, 0, 0, 0, last,
     ];
-    Ok(Address::from_bytes(&bytes).ok().ok_or("no address")?)
+    match Address::from_bytes(&bytes) {
+        Ok(address) => Ok(address),
+        Err(_) => Err(Fail::from("no address")),
+    }
+}
+
+// Level 0, now 0, 0a has 100 and 0c has 50.
+fn state(alloc: Global) -> Result<State, Fail> {
+    let mut file = Vec::new(alloc);
+    file.extend_from_slice(b"FJS1")?;
+    file.extend_from_slice(&0u32.to_be_bytes())?;
+    file.extend_from_slice(&0u64.to_be_bytes())?;
+    file.extend_from_slice(&0u32.to_be_bytes())?;
+    file.extend_from_slice(&2u32.to_be_bytes())?;
+    for (last, amount) in [(0x0a, 100u64), (0x0c, 50)] {
+        file.push(BALANCE)?;
+        file.extend_from_slice(account(last)?.bytes())?;
+        file.push(MUTEZ)?;
+        file.extend_from_slice(&amount.to_be_bytes())?;
+    }
+    Ok(read_state(alloc, &file)?)
 }
 
 fn footprint(alloc: Global, touched: &[(u8, Mode)]) -> Result<Footprint, Fail> {
@@ -94,7 +117,7 @@ const ROWS: [Row; 6] = [
 
 #[test]
 fn each_transfer_ends_as_by_hand(rt: HostRuntime) -> Result<(), Fail> {
-    let state = read_state(rt.alloc(), STATE).ok().ok_or("a state")?;
+    let state = state(rt.alloc())?;
     for row in ROWS.iter() {
         let mut overlay = Overlay::new(rt.alloc(), &state);
         let transfer = Transfer {

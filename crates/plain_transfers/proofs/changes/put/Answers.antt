@@ -5,7 +5,7 @@ use Rattle.std.specs.Cmp.Lexicographic.{slice_cmp}
 use Rattle.std.specs.Prelude.{All, map, IsSome, Option, Some, Bool, true, false, cond}
 use Rattle.std.proofs.lemmas.Map.Views.{All-keys-insert_entry}
 use Rattle.cell_names.specs.Accounts.{IsImplicit}
-use Rattle.plain_transfers.specs.Changes.{Entry}
+use Rattle.ledger_state.specs.Ledger.{BalanceEntry}
 use Rattle.plain_transfers.proofs.Over.{over-written}
 use Rattle.plain_transfers.proofs.changes.put.Goals as goal
 
@@ -14,7 +14,7 @@ returns-clause-written c = λ m. over-written m c.args.changes.now.entries c.ins
 
 pub returns-clause-accounts : goal.returns-clause-accounts
 returns-clause-accounts c = λ account all.
-    let P : List Entry → Type 0 = λ es. All IsImplicit (map (λ e. e.0) es) in
+    let P : List BalanceEntry → Type 0 = λ es. All IsImplicit (map (λ e. e.0) es) in
     subst P (sym c.in_ok-insert.ensures.entries) (All-keys-insert_entry (slice_cmp nat_cmp) c.args.address c.args.amount IsImplicit c.args.changes.now.entries all account)
 
 still_some : (b : Bool) (n : ℕ) (o : Option ℕ) → IsSome o → IsSome (cond b (Some n) o)
