@@ -10,7 +10,7 @@ use Rattle.block_codec.specs.declared.transfer.Transfer.{Transfer}
 use Rattle.block_codec.specs.declared.transfer.Receipt.{Receipt}
 use Rattle.block_codec.specs.Block.{BlockView, IsBlock}
 use Rattle.plain_transfers.specs.Serial.{serial}
-use Rattle.plain_transfers.specs.Run.{run_all}
+use Rattle.plain_transfers.specs.Run.{run_on}
 use Rattle.block_cli.specs.Verdict.{serial_run, SameFootprint, SameReceipt, TellsFirst}
 use Rattle.block_cli.specs.Judging.{Replays}
 use Rattle.block_cli.specs.declared.refusal.Refusal.TheVariants as refusals
@@ -23,23 +23,23 @@ all_at P (y ∷ xs) (suc i) x all lt e = all_at P xs i x all.1 (omega arith) e
 
 -- the balances after the first i operations
 abbrev pub left : Balances → List Transfer → ℕ → Balances
-left m ops i = (run_all m (take i ops)).balances
+left m ops i = (run_on m (take i ops)).balances
 
 left-next : (m : Balances) (ops : List Transfer) (i : ℕ) (t : Transfer) → i < length ops → t ≡ get_or ops i t → left m ops (suc i) ≡ (serial (left m ops i) t).balances
 left-next m [] i t lt e = absurd (omega arith)
 left-next m (x ∷ ops) zero t lt e = ap (λ (y : Transfer). (serial m y).balances) (sym e)
 left-next m (x ∷ ops) (suc i) t lt e = left-next (serial m x).balances ops i t (omega arith) e
 
-left-all : (m : Balances) (ops : List Transfer) → left m ops (length ops) ≡ (run_all m ops).balances
+left-all : (m : Balances) (ops : List Transfer) → left m ops (length ops) ≡ (run_on m ops).balances
 left-all m [] = refl
 left-all m (x ∷ ops) = left-all (serial m x).balances ops
 
-footprint_at : (m : Balances) (ops : List Transfer) (i : ℕ) (t : Transfer) → i < length ops → t ≡ get_or ops i t → slice_get (run_all m ops).footprints i ≡ Some (serial (left m ops i) t).footprint
+footprint_at : (m : Balances) (ops : List Transfer) (i : ℕ) (t : Transfer) → i < length ops → t ≡ get_or ops i t → slice_get (run_on m ops).footprints i ≡ Some (serial (left m ops i) t).footprint
 footprint_at m [] i t lt e = absurd (omega arith)
 footprint_at m (x ∷ ops) zero t lt e = ap (λ (y : Transfer). Some (serial m y).footprint) (sym e)
 footprint_at m (x ∷ ops) (suc i) t lt e = footprint_at (serial m x).balances ops i t (omega arith) e
 
-receipt_at : (m : Balances) (ops : List Transfer) (i : ℕ) (t : Transfer) → i < length ops → t ≡ get_or ops i t → slice_get (run_all m ops).receipts i ≡ Some (serial (left m ops i) t).receipt
+receipt_at : (m : Balances) (ops : List Transfer) (i : ℕ) (t : Transfer) → i < length ops → t ≡ get_or ops i t → slice_get (run_on m ops).receipts i ≡ Some (serial (left m ops i) t).receipt
 receipt_at m [] i t lt e = absurd (omega arith)
 receipt_at m (x ∷ ops) zero t lt e = ap (λ (y : Transfer). Some (serial m y).receipt) (sym e)
 receipt_at m (x ∷ ops) (suc i) t lt e = receipt_at (serial m x).balances ops i t (omega arith) e

@@ -15,7 +15,7 @@ use Rattle.cell_names.specs.declared.mode.Mode.{Mode}
 use Rattle.block_codec.specs.declared.transfer.Receipt.{Receipt}
 use Rattle.block_codec.specs.declared.transfer.Transfer.{Transfer}
 use Rattle.plain_transfers.specs.Serial.{Ran, applied, too_low, serial, debited, credited, debit_cells, paid_cells}
-use Rattle.plain_transfers.specs.Run.{run_all}
+use Rattle.plain_transfers.specs.Run.{run_on}
 use Rattle.block_cli.specs.Verdict.{state_after}
 
 -- ---- each balance takes at least a byte
@@ -67,15 +67,15 @@ len-serial m t =
       ]
     ]
 
-pub len-run_all : (m : Balances) (ops : List Transfer) → len (run_all m ops).balances ≤ len m + 2 * length ops
-len-run_all m [] = omega arith
-len-run_all m (t ∷ ts) = omega (arith, len-serial m t, len-run_all (serial m t).balances ts)
+pub len-run_on : (m : Balances) (ops : List Transfer) → len (run_on m ops).balances ≤ len m + 2 * length ops
+len-run_on m [] = omega arith
+len-run_on m (t ∷ ts) = omega (arith, len-serial m t, len-run_on (serial m t).balances ts)
 
 -- the state after a block has at most two balances more for each operation
 pub few_more : (s : Ledger) (b : BlockView) (after : Ledger) → IsBlock b → after ≡ state_after s b → len after.balances ≤ len s.balances + 1024
 few_more s b after lawful is =
     let few : length b.ops ≤ 512 = lawful.few in
-    subst (λ (x : Ledger). len x.balances ≤ len s.balances + 1024) (sym is) (omega (arith, len-run_all s.balances b.ops))
+    subst (λ (x : Ledger). len x.balances ≤ len s.balances + 1024) (sym is) (omega (arith, len-run_on s.balances b.ops))
 
 -- a state that was read has fewer balances than there were bytes
 pub few_read : {E : Type 0} (bytes : List ℕ) (r : Result Ledger E) → IfOk r (λ s. IsLedger s × (bytes ≡ spelling s)) → IfOk r (λ s. len s.balances ≤ length bytes)

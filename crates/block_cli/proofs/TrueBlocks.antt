@@ -15,7 +15,7 @@ use Rattle.block_codec.specs.Spelling.{spelling}
 use Rattle.block_codec.specs.Reading.{block_of}
 use Rattle.block_codec.specs.declared.transfer.Transfer.{Transfer}
 use Rattle.plain_transfers.specs.Serial.{serial}
-use Rattle.plain_transfers.specs.Run.{IsPlain, run_all}
+use Rattle.plain_transfers.specs.Run.{IsPlain, run_all, run_on}
 use Rattle.block_cli.specs.Verdict.{Accepted, serial_run, state_after, IsTrueOn, IsVerdictOf, IsTrueBlock, LeavesLedger, AcceptedBytesAreTrueBlocks, AcceptedBlocksLeaveLedgers}
 use Rattle.block_cli.proofs.Sizes.{len-spelling}
 use Rattle.block_cli.proofs.EveryVerdict.{BlocksAreSpelt}
@@ -32,11 +32,11 @@ alike {A} (suc n) (x ∷ xs) (y ∷ ys) p q same =
     let head : x ≡ y = cc in
     ap (λ (z : A). z ∷ xs) head ∙ ap (λ (zs : List A). y ∷ zs) (alike n xs ys (omega arith) (omega arith) (λ i lt. same (suc i) (omega arith)))
 
-length-footprints : (m : Balances) (ops : List Transfer) → length (run_all m ops).footprints ≡ length ops
+length-footprints : (m : Balances) (ops : List Transfer) → length (run_on m ops).footprints ≡ length ops
 length-footprints m [] = refl
 length-footprints m (t ∷ ts) = omega (arith, length-footprints (serial m t).balances ts)
 
-length-receipts : (m : Balances) (ops : List Transfer) → length (run_all m ops).receipts ≡ length ops
+length-receipts : (m : Balances) (ops : List Transfer) → length (run_on m ops).receipts ≡ length ops
 length-receipts m [] = refl
 length-receipts m (t ∷ ts) = omega (arith, length-receipts (serial m t).balances ts)
 
@@ -91,13 +91,13 @@ plain [] all = tt
 plain (t ∷ ts) all = (record { source = all.0.source; dest = all.0.dest }, plain ts all.1)
 
 module _ (reads : BlocksAreSpelt) (ledger_again : (s : Ledger) → IsLedger s → ledger_of (spelt s) ≡ Ok s)
-    (kept : (m : Balances) (ops : List Transfer) → AreBalances m → AllByRecursion IsPlain ops → supply (run_all m ops).balances ≡ supply m)
-    (stay : (m : Balances) (ops : List Transfer) → AreBalances m → AllByRecursion IsPlain ops → AreBalances (run_all m ops).balances) where
+    (kept : (s : Ledger) (ops : List Transfer) → AreBalances s.balances → AllByRecursion IsPlain ops → supply (run_all s ops).balances ≡ supply s.balances)
+    (stay : (s : Ledger) (ops : List Transfer) → AreBalances s.balances → AllByRecursion IsPlain ops → AreBalances (run_all s ops).balances) where
   left_by : (s : Ledger) (b : BlockView) → IsLedger s → IsBlock b → length (spelt (state_after s b)) ≤ most_bytes → LeavesLedger s (state_after s b)
   left_by s b ledger lawful short =
       let few = len-spelling (state_after s b) in
-      let is : IsLedger (state_after s b) = record { level = lawful.level; now = lawful.now; few = omega (arith, few, short); balances = stay s.balances b.ops ledger.balances (plain b.ops lawful.ops) } in
-      record { lawful = is; supply = kept s.balances b.ops ledger.balances (plain b.ops lawful.ops); again = ledger_again (state_after s b) is }
+      let is : IsLedger (state_after s b) = record { level = lawful.level; now = lawful.now; few = omega (arith, few, short); balances = stay s b.ops ledger.balances (plain b.ops lawful.ops) } in
+      record { lawful = is; supply = kept s b.ops ledger.balances (plain b.ops lawful.ops); again = ledger_again (state_after s b) is }
 
   pub accepted_leave : AcceptedBlocksLeaveLedgers
   accepted_leave s after bytes fits ledger v short =

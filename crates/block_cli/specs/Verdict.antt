@@ -37,7 +37,7 @@ pub record IsOrdered (s : Ledger) (b : BlockView) : Type 0 where
 
 -- what its operations leave, run one by one
 abbrev pub serial_run : Ledger → BlockView → Run
-serial_run s b = run_all s.balances b.ops
+serial_run s b = run_all s b.ops
 
 -- of operation i the footprint, or the receipt, that is published is the serial run's
 abbrev pub SameFootprint : Ledger → BlockView → ℕ → Type 0
