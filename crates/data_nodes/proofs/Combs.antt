@@ -12,7 +12,7 @@ use Rattle.value_core.specs.Combs as combs
 use Rattle.value_core.proofs.Combs.{one_more_part}
 use Rattle.data_nodes.specs.Readers.{Read, at_second, comb, is_comb_of, pair_of, then_read}
 use Rattle.data_nodes.specs.Faults.{reader, storage_read}
-use Rattle.data_nodes.proofs.TypeLevels.{shows_pair}
+use Rattle.value_core.specs.TypeLevels.{shows_pair}
 
 -- ---- two items or more
 

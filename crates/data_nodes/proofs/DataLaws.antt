@@ -5,14 +5,17 @@ use Rattle.std.proofs.lemmas.Bool.{and_from, and_parts, le-leb, leb-true}
 use Rattle.value_core.specs.declared.ty.Ty.{Ty}
 use Rattle.value_core.specs.declared.ty.Ty.TheViews.{out-Ty}
 use Rattle.value_core.specs.declared.val.Val.{Val}
+use Rattle.value_core.specs.declared.val.Val.TheOpen as one
 use Rattle.value_core.specs.declared.val.Val.TheViews.{out-Val, roll-Val}
 use Rattle.value_core.specs.Layer.{Layer, on_parts, parts_of}
+use Rattle.value_core.specs.Lawful.{is_lawful, is_lawful_level}
 use Rattle.value_core.specs.Size.{size_of}
 use Rattle.value_core.specs.Sound.{is_sound, is_sound_level}
 use Rattle.value_core.specs.Typed.{fits, fits_level}
-use Rattle.value_core.proofs.Levels.{Each, by_level-is, by_level-roll, induction, out-roll, roll-out}
+use Rattle.value_core.proofs.Levels.{Each, by_level-roll, induction, out-roll, roll-out}
 use Rattle.value_core.proofs.Everywhere.{everywhere-is, everywhere-roll}
 use Rattle.value_core.proofs.PlainTyped.{everywhere-joins}
+pub use Rattle.value_core.proofs.TypeEquations.{fits-is}
 use Rattle.micheline_text.specs.declared.node.Node.{Node}
 use Rattle.micheline_text.specs.declared.node.Body.TheViews.{out-Body}
 use Rattle.data_nodes.specs.declared.fault.DataRefusal.{DataRefusal}
@@ -30,9 +33,6 @@ use Rattle.data_nodes.proofs.LevelsRead.{Row, row}
 use Rattle.data_nodes.proofs.WrittenNodes.{written-is}
 
 -- ---- a level and its value
-
-pub fits-is : (v : Val) (t : Ty) → fits v t ≡ fits_level (on_parts fits (out-Val v)) (out-Ty t)
-fits-is v t = ap (λ (f : Ty → Bool). f t) (by_level-is {A = Ty → Bool} (λ x t. fits_level x (out-Ty t)) v)
 
 pub fits-roll : (x : Layer Val) (t : Ty) → fits (roll-Val x) t ≡ fits_level (on_parts fits x) (out-Ty t)
 fits-roll x t = ap (λ (f : Ty → Bool). f t) (by_level-roll {A = Ty → Bool} (λ x t. fits_level x (out-Ty t)) x)
@@ -75,6 +75,14 @@ good_sound v g = everywhere-joins is_good_level is_good_level is_sound_level (λ
 
 good_addresses : (v : Val) → is_good v ≡ true → has_addresses v ≡ true
 good_addresses v g = everywhere-joins is_good_level is_good_level is_addressed_level (λ x p q. (and_parts (is_sound_level x) _ p).1) v g g
+
+-- each address in a lawful value is one
+lawful_addressed : (x : Layer Val) → is_lawful_level x ≡ true → is_addressed_level x ≡ true
+lawful_addressed (one.Addr address) lawful = (and_parts _ _ lawful).0
+lawful_addressed _ lawful = refl
+
+pub lawful_addresses : (v : Val) → is_lawful v ≡ true → has_addresses v ≡ true
+lawful_addresses v h = everywhere-joins is_lawful_level is_lawful_level is_addressed_level (λ x p q. lawful_addressed x p) v h h
 
 -- what is read is data of the type
 pub read_is_data : (t : Ty) (n : Node) (v : Val) → storage_read t n ≡ Ok v → IsData t n v

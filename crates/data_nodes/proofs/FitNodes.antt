@@ -1,16 +1,18 @@
 -- The node that is printed for a value is a printable one, with brackets at most as deep as the value.
-use Rattle.std.proofs.Common.{◌≡◌, ℕ, ℤ, zero, suc, pos, negsuc, ◌≤ℤ◌, ◌+◌, ◌-◌, ◌^◌, ◌≤◌, inl, inr, Bool, true, false, List, [], ◌∷◌, map, refl, sym, ap, subst, ◌∙◌, arith}
-use Rattle.std.specs.Prelude.{◌&&◌, codes, if◌then◌else◌, int_le, nat_lt}
+use Rattle.std.proofs.Common.{◌≡◌, ℕ, ℤ, zero, suc, pos, negsuc, ◌≤ℤ◌, ◌+◌, ◌-◌, ◌^◌, ◌≤◌, inl, inr, Bool, true, false, List, [], ◌∷◌, length, map, refl, sym, ap, subst, ◌∙◌, arith}
+use Rattle.std.specs.Prelude.{◌&&◌, codes, if◌then◌else◌, int_le, nat_lt, ◌==◌}
 use Rattle.std.specs.List.{AllByRecursion, list_all}
-use Rattle.std.proofs.lemmas.Bool.{and_parts}
+use Rattle.std.proofs.lemmas.Bool.{and_from, and_parts, eqb-true}
+use Rattle.std.proofs.lemmas.Bool.Decides.{nat_tests}
 use Rattle.std.proofs.lemmas.Int.{ints}
-use Rattle.std.proofs.lemmas.List.Folds.{list_all-map}
 use Rattle.value_core.specs.declared.val.Val.{Val}
 use Rattle.value_core.specs.declared.val.Val.TheOpen as one
 use Rattle.value_core.specs.declared.val.Val.TheViews.{out-Val}
 use Rattle.value_core.specs.Layer.{Layer, flat, on_parts, parts_of}
-use Rattle.value_core.specs.Leaves.{is_blob, is_text}
+use Rattle.value_core.specs.Lawful.{are_bytes, is_lawful, is_lawful_address, is_lawful_blob, is_lawful_level, is_number}
+use Rattle.value_core.specs.Leaves.{is_address, is_blob, is_text}
 use Rattle.value_core.specs.Depth.{depth_of, greatest}
+use Rattle.value_core.proofs.Everywhere.{everywhere-is}
 use Rattle.value_core.proofs.Levels.{Each, by_level-is, induction, parts_of-on_parts}
 use Rattle.micheline_text.specs.declared.node.Node.{Node}
 use Rattle.micheline_text.specs.declared.node.Body.{Body}
@@ -21,7 +23,6 @@ use Rattle.micheline_text.specs.Printed.{Print}
 use Rattle.micheline_text.specs.Fits.{IsName, IsFitLiteral, IsFitArgument, IsFitNode, IsInside, IsPrintable}
 use Rattle.micheline_text.proofs.PrintLemmas.{print_prim}
 use Rattle.data_nodes.specs.Printed.{is_printable, node_of, printed_level}
-use Rattle.data_nodes.specs.Held.{held_level, is_held, is_held_blob, is_held_number}
 use Rattle.data_nodes.proofs.DataLevels.{data_level, is_data, is_data_level, printable_is_data}
 use Rattle.data_nodes.proofs.WrittenNodes.{nodes_of, pair_node, printed-is}
 
@@ -30,10 +31,14 @@ use Rattle.data_nodes.proofs.WrittenNodes.{nodes_of, pair_node, printed-is}
 above_is : (a z : ℤ) → int_le a z ≡ true → a ≤ℤ z
 above_is a z h = grind (arith, ints)
 
-number_fits : (z : ℤ) → is_held_number z ≡ true → IsFitLiteral (variant.Int z)
+number_fits : (z : ℤ) → is_number z ≡ true → IsFitLiteral (variant.Int z)
 number_fits z h =
     let both = and_parts (int_le (negsuc (2 ^ 127 - 2)) z) (int_le z (pos (2 ^ 127 - 1))) h in
     inl (z, refl, (above_is (negsuc (2 ^ 127 - 2)) z both.0, above_is z (pos (2 ^ 127 - 1)) both.1))
+
+-- an amount is a number
+amount_is_number : (n : ℕ) → nat_lt n (2 ^ 64) ≡ true → is_number (pos n) ≡ true
+amount_is_number n h = grind (arith, ints, nat_tests)
 
 text_fits : (t : List ℕ) → is_text t ≡ true → IsFitLiteral (variant.Text t)
 text_fits t h = inr (inl (t, refl, h))
@@ -42,8 +47,15 @@ each_is : (test : ℕ → Bool) (t : List ℕ) → list_all test t ≡ true → 
 each_is test [] h = tt
 each_is test (b ∷ t) h = let both = and_parts (test b) (list_all test t) h in (both.0, each_is test t both.1)
 
-blob_fits : (t : List ℕ) → is_held_blob t ≡ true → IsFitLiteral (variant.Bytes t)
-blob_fits t h = let both = and_parts (is_blob t) (list_all (λ b. nat_lt b 256) t) h in inr (inr (t, refl, both.0, each_is (λ b. nat_lt b 256) t both.1))
+blob_fits : (t : List ℕ) → is_lawful_blob t ≡ true → IsFitLiteral (variant.Bytes t)
+blob_fits t h = let both = and_parts (is_blob t) (are_bytes t) h in inr (inr (t, refl, both.0, each_is (λ b. nat_lt b 256) t both.1))
+
+-- 22 bytes aren't too many
+short_enough : (t : List ℕ) → is_address t ≡ true → is_blob t ≡ true
+short_enough t h = let long : length t ≡ 22 = eqb-true (length t) 22 (and_parts (length t == 22) _ h).0 in rw long refl
+
+address_fits : (t : List ℕ) → is_lawful_address t ≡ true → IsFitLiteral (variant.Bytes t)
+address_fits t h = let both = and_parts (is_address t) (are_bytes t) h in blob_fits t (and_from _ _ (short_enough t both.0) both.1)
 
 -- ---- as a node, and as an argument
 
@@ -99,25 +111,25 @@ truth_is false = name_is (codes "False") refl
 -- ---- parts
 
 abbrev Fit : Val → Type 0
-Fit v = (d : ℕ) → is_data v ≡ true → is_held v ≡ true → depth_of v ≤ d → Fits d (node_of v).body
+Fit v = (d : ℕ) → is_data v ≡ true → is_lawful v ≡ true → depth_of v ≤ d → Fits d (node_of v).body
 
 -- parts of a value of data, each at most so deep
 record Parts (d : ℕ) (vs : List Val) : Type 0 where
   pub fit : Each Fit vs
   pub of_data : list_all is_data vs ≡ true
-  pub held : list_all is_held vs ≡ true
+  pub lawful : list_all is_lawful vs ≡ true
   pub deep : greatest (map depth_of vs) ≤ d
 
 rest_of : (d : ℕ) (v : Val) (vs : List Val) → Parts d (v ∷ vs) → Parts d vs
 rest_of d v vs p = record {
   fit = p.fit.1;
   of_data = (and_parts _ _ p.of_data).1;
-  held = (and_parts _ _ p.held).1;
+  lawful = (and_parts _ _ p.lawful).1;
   deep = omega (arith, p.deep);
 }
 
 first_of : (d : ℕ) (v : Val) (vs : List Val) → Parts d (v ∷ vs) → (e : ℕ) → d ≤ e → Fits e (node_of v).body
-first_of d v vs p e more = p.fit.0 e (and_parts _ _ p.of_data).0 (and_parts _ _ p.held).0 (omega (arith, p.deep))
+first_of d v vs p e more = p.fit.0 e (and_parts _ _ p.of_data).0 (and_parts _ _ p.lawful).0 (omega (arith, p.deep))
 
 parts_fit : (d : ℕ) (vs : List Val) → Parts d vs → (e : ℕ) → d ≤ e → AllByRecursion (λ n. Fits e n.body) (map node_of vs)
 parts_fit d [] p e more = tt
@@ -142,28 +154,17 @@ entries_fit d (e ∷ es) p =
 
 -- ---- one level
 
-pub held_parts : (x : Layer Val) → is_data_level x ≡ true → held_level (on_parts is_held x) ≡ true → list_all is_held (parts_of x) ≡ true
-held_parts (one.Some part) level h = h
-held_parts (one.Left part) level h = h
-held_parts (one.Right part) level h = h
-held_parts (one.Pair a b) level h = h
-held_parts (one.List items) level h = sym (list_all-map (λ part. part) is_held items) ∙ h
-held_parts (one.Set items) level h = sym (list_all-map (λ part. part) is_held items) ∙ h
-held_parts (one.Map entries) level h = sym (ap (list_all (λ part. part)) (parts_of-on_parts is_held (one.Map entries)) ∙ list_all-map (λ part. part) is_held (flat entries)) ∙ h
-held_parts (one.Operation emit) level h = absurd cc
-held_parts _ level h = refl
-
-level_fits : (d : ℕ) (x : Layer Val) → is_data_level x ≡ true → held_level (on_parts is_held x) ≡ true → Parts d (parts_of x) → Fits (suc d) (printed_level (on_parts node_of x)).body
+level_fits : (d : ℕ) (x : Layer Val) → is_data_level x ≡ true → is_lawful_level x ≡ true → Parts d (parts_of x) → Fits (suc d) (printed_level (on_parts node_of x)).body
 unfolding is_word
 level_fits d one.Unit level h p = name_alone (suc d) (codes "Unit") (name_is (codes "Unit") refl)
 level_fits d (one.Bool b) level h p = name_alone (suc d) (if b then codes "True" else codes "False") (truth_is b)
 level_fits d (one.Int z) level h p = literal (suc d) (variant.Int z) (number_fits z h)
 level_fits d (one.Nat z) level h p = literal (suc d) (variant.Int z) (number_fits z h)
-level_fits d (one.Mutez n) level h p = literal (suc d) (variant.Int (pos n)) (number_fits (pos n) h)
+level_fits d (one.Mutez n) level h p = literal (suc d) (variant.Int (pos n)) (number_fits (pos n) (amount_is_number n h))
 level_fits d (one.Time z) level h p = literal (suc d) (variant.Int z) (number_fits z h)
 level_fits d (one.Text s) level h p = literal (suc d) (variant.Text s) (text_fits s h)
 level_fits d (one.Bytes b) level h p = literal (suc d) (variant.Bytes b) (blob_fits b h)
-level_fits d (one.Addr address) level h p = literal (suc d) (variant.Bytes address) (blob_fits address (and_parts _ _ h).1)
+level_fits d (one.Addr address) level h p = literal (suc d) (variant.Bytes address) (address_fits address h)
 level_fits d one.Nothing level h p = name_alone (suc d) (codes "None") (name_is (codes "None") refl)
 level_fits d (one.Some part) level h p = applied_fits d (codes "Some") part [] refl p
 level_fits d (one.Left part) level h p = applied_fits d (codes "Left") part [] refl p
@@ -176,21 +177,18 @@ level_fits d _ level h p = absurd cc
 
 -- ---- values
 
-pub held-is : (v : Val) → is_held v ≡ held_level (on_parts is_held (out-Val v))
-held-is = by_level-is held_level
-
 depth-is : (v : Val) → depth_of v ≡ 1 + greatest (map depth_of (parts_of (out-Val v)))
 depth-is v = by_level-is (λ x. 1 + greatest (parts_of x)) v ∙ ap (λ ns. 1 + greatest ns) (parts_of-on_parts depth_of (out-Val v))
 
 step : (v : Val) → Each Fit (parts_of (out-Val v)) → Fit v
-step v each zero of_data held deep = absurd (omega (arith, depth-is v, deep))
-step v each (suc d) of_data held deep =
+step v each zero of_data lawful deep = absurd (omega (arith, depth-is v, deep))
+step v each (suc d) of_data lawful deep =
     let level = data_level v of_data in
-    let here = sym (held-is v) ∙ held in
-    subst (λ (n : Node). Fits (suc d) n.body) (sym (printed-is v)) (level_fits d (out-Val v) level.0 here (record {
+    let here = and_parts (is_lawful_level (out-Val v)) _ (sym (everywhere-is is_lawful_level v) ∙ lawful) in
+    subst (λ (n : Node). Fits (suc d) n.body) (sym (printed-is v)) (level_fits d (out-Val v) level.0 here.0 (record {
       fit = each;
       of_data = level.1;
-      held = held_parts (out-Val v) level.0 here;
+      lawful = here.1;
       deep = omega (arith, depth-is v, deep);
     }))
 
@@ -198,9 +196,9 @@ fits : (v : Val) → Fit v
 fits = induction Fit step
 
 -- it fits as an argument into brackets at least as deep as the value
-pub printed_argument : (v : Val) (d : ℕ) → is_printable v ≡ true → is_held v ≡ true → depth_of v ≤ d → IsFitArgument (IsInside d) (node_of v).body
-printed_argument v d printable held deep = (fits v d (printable_is_data v printable) held deep).argued
+pub printed_argument : (v : Val) (d : ℕ) → is_printable v ≡ true → is_lawful v ≡ true → depth_of v ≤ d → IsFitArgument (IsInside d) (node_of v).body
+printed_argument v d printable lawful deep = (fits v d (printable_is_data v printable) lawful deep).argued
 
 -- and alone
-pub printed_fits : (v : Val) → is_printable v ≡ true → is_held v ≡ true → depth_of v ≤ 256 → IsPrintable (node_of v)
-printed_fits v printable held deep = (256, omega arith, (fits v 256 (printable_is_data v printable) held deep).alone)
+pub printed_fits : (v : Val) → is_printable v ≡ true → is_lawful v ≡ true → depth_of v ≤ 256 → IsPrintable (node_of v)
+printed_fits v printable lawful deep = (256, omega arith, (fits v 256 (printable_is_data v printable) lawful deep).alone)

@@ -1,27 +1,30 @@
 -- A storage is read exactly where a node is one.
-use Rattle.std.proofs.Common.{◌≡◌, true, Ok, Err, Result, ap, ◌∙◌}
-use Rattle.std.specs.Prelude.{IfOk, IfErr}
-use Rattle.std.proofs.lemmas.Bool.{and_parts}
+use Rattle.std.proofs.Common.{◌≡◌, ◌≤◌, Ok, Err, Result, length, ap, sym, subst, ◌∙◌}
+use Rattle.std.specs.Prelude.{IfOk, IfErr, IsTrue}
+use Rattle.std.specs.List.{AllByRecursion}
 use Rattle.value_core.specs.declared.ty.Ty.{Ty}
 use Rattle.value_core.specs.declared.val.Val.{Val}
-use Rattle.value_core.specs.Sound.{is_sound}
-use Rattle.value_core.specs.Typed.{fits}
+use Rattle.value_core.specs.BigMaps.{big_maps_of}
+use Rattle.value_core.specs.Sound.{is_plain}
 use Rattle.micheline_text.specs.declared.node.Node.{Node}
 use Rattle.data_nodes.specs.declared.fault.DataRefusal.{DataRefusal}
 use Rattle.data_nodes.specs.declared.fault.DataRefusal.TheVariants.{Fault, NoMemory}
-use Rattle.data_nodes.specs.Answers.{Answers, GivesAs, Refuses}
-use Rattle.data_nodes.specs.Readers.{Read, then_read}
+use Rattle.data_nodes.specs.Answers.{Answers, GivesAs, Refuses, Tells}
+use Rattle.data_nodes.specs.Data.{IsData}
 use Rattle.data_nodes.specs.Faults.{storage_read}
-use Rattle.data_nodes.specs.Storage.{IsStorage, Parted, parted, with_maps}
+use Rattle.data_nodes.specs.FirstFault.{IsFirstFault}
+use Rattle.data_nodes.specs.Parts.{parted}
+use Rattle.data_nodes.specs.Readers.{Read, then_read}
+use Rattle.data_nodes.specs.Storage.{IsStorage, Kept, with_entries, with_maps}
 use Rattle.data_nodes.proofs.DataLaws.{data_is_read, read_is_data}
+use Rattle.data_nodes.proofs.FirstFaults.{first_is_told}
 use Rattle.data_nodes.proofs.ItemLaws.{then_ok}
-
--- a value that was read is built as its type is
-pub read_fits : (t : Ty) (n : Node) (v : Val) → storage_read t n ≡ Ok v → fits v t ≡ true
-read_fits t n v r = (and_parts (is_sound v) _ (read_is_data t n v r).0).1
+use Rattle.data_nodes.proofs.KeptStorages.{parted_well}
+use Rattle.data_nodes.proofs.PlainData.{plain-data}
+use Rattle.data_nodes.proofs.StorageBack.{parted_again}
 
 -- what is read of a storage's node
-abbrev pub storage_parted : Ty → Node → Read Parted
+abbrev pub storage_parted : Ty → Node → Read Kept
 storage_parted t n = then_read (storage_read (with_maps t) n) (λ v. Ok (parted t v))
 
 fault_of : (t : Ty) (r : Read Val) (e : DataRefusal) → Refuses (then_read r (λ v. Ok (parted t v))) e → Refuses r e
@@ -29,21 +32,45 @@ fault_of t r NoMemory h = tt
 fault_of t (Ok v) (Fault f) h = absurd cc
 fault_of t (Err g) (Fault f) h = cc
 
-module _ {A : Type 0} (view : A → Parted) (t : Ty) (n : Node) where
-  pub storage_found : (r : Result A DataRefusal) → Answers view (storage_parted t n) r → IfOk r (λ x. IsStorage t n (view x))
-  storage_found (Ok x) a =
-      let one = then_ok (storage_read (with_maps t) n) (λ v. Ok (parted t v)) (view x) a in
-      (one.0, read_is_data (with_maps t) n one.0 one.1, cc)
-  storage_found (Err e) a = tt
+abbrev ArePlain : Kept → Type 0
+ArePlain kept = AllByRecursion (λ e. IsTrue (is_plain e.1) × IsTrue (is_plain e.2)) kept.1
 
-  storage_is_read : (kept : Parted) → IsStorage t n kept → storage_parted t n ≡ Ok kept
-  storage_is_read kept s = ap (λ (r : Read Val). then_read r (λ v. Ok (parted t v))) (data_is_read (with_maps t) n s.0 s.1) ∙ ap (λ (p : Parted). Ok p) s.2
+module _ (t : Ty) (n : Node) (few : length (big_maps_of t) ≤ 16) where
+  parted_is_storage : (v : Val) → IsData (with_maps t) n v → IsStorage t n (parted t v) × ArePlain (parted t v)
+  parted_is_storage v data_of =
+      let well = parted_well t v few data_of.0 (plain-data (with_maps t) n v data_of) in
+      (record { is = well.kept; said = subst (IsData (with_maps t) n) (sym well.back) data_of }, well.plain)
 
-  pub storage_only : (r : Result A DataRefusal) → Answers view (storage_parted t n) r → (kept : Parted) → IsStorage t n kept → GivesAs view kept r
-  storage_only (Ok x) a kept s = let read = storage_is_read kept s in cc
+  found : (kept : Kept) → storage_parted t n ≡ Ok kept → IsStorage t n kept × ArePlain kept
+  found kept a =
+      let one = then_ok (storage_read (with_maps t) n) (λ v. Ok (parted t v)) kept a in
+      let is : parted t one.0 ≡ kept = cc in
+      subst (λ (k : Kept). IsStorage t n k × ArePlain k) is (parted_is_storage one.0 (read_is_data (with_maps t) n one.0 one.1))
+
+pub storage_is_read : (t : Ty) (n : Node) (kept : Kept) → IsStorage t n kept → storage_parted t n ≡ Ok kept
+storage_is_read t n kept s =
+    ap (λ (r : Read Val). then_read r (λ v. Ok (parted t v))) (data_is_read (with_maps t) n (with_entries kept.1 kept.0) s.said)
+    ∙ ap (λ (k : Kept). Ok k) (parted_again t kept s.is)
+
+module _ {A : Type 0} (view : A → Kept) (t : Ty) (n : Node) where
+  pub storage_found : (r : Result A DataRefusal) → length (big_maps_of t) ≤ 16 → Answers view (storage_parted t n) r → IfOk r (λ x. IsStorage t n (view x))
+  storage_found (Ok x) few a = (found t n few (view x) a).0
+  storage_found (Err e) few a = tt
+
+  pub storage_plain : (r : Result A DataRefusal) → length (big_maps_of t) ≤ 16 → Answers view (storage_parted t n) r → IfOk r (λ x. IsTrue (is_plain (view x).0))
+  storage_plain (Ok x) few a = (found t n few (view x) a).0.is.plain
+  storage_plain (Err e) few a = tt
+
+  pub entries_plain : (r : Result A DataRefusal) → length (big_maps_of t) ≤ 16 → Answers view (storage_parted t n) r → IfOk r (λ x. ArePlain (view x))
+  entries_plain (Ok x) few a = (found t n few (view x) a).1
+  entries_plain (Err e) few a = tt
+
+  pub storage_only : (r : Result A DataRefusal) → Answers view (storage_parted t n) r → (kept : Kept) → IsStorage t n kept → GivesAs view kept r
+  storage_only (Ok x) a kept s = let read = storage_is_read t n kept s in cc
   storage_only (Err NoMemory) a kept s = tt
-  storage_only (Err (Fault f)) a kept s = let read = storage_is_read kept s in absurd cc
+  storage_only (Err (Fault f)) a kept s = let read = storage_is_read t n kept s in absurd cc
 
-  pub storage_fault : (r : Result A DataRefusal) → Answers view (storage_parted t n) r → IfErr r (Refuses (storage_read (with_maps t) n))
+  pub storage_fault : (r : Result A DataRefusal) → Answers view (storage_parted t n) r → IfErr r (Tells (IsFirstFault (with_maps t) n))
   storage_fault (Ok x) a = tt
-  storage_fault (Err e) a = fault_of t (storage_read (with_maps t) n) e a
+  storage_fault (Err NoMemory) a = tt
+  storage_fault (Err (Fault f)) a = first_is_told (with_maps t) n f (fault_of t (storage_read (with_maps t) n) (Fault f) a)

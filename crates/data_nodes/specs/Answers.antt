@@ -1,5 +1,6 @@
 -- What a call returned, beside what a definition says.
 use Rattle.std.specs.Prelude.{◌≡◌, Result, Ok, Err}
+use Rattle.data_nodes.specs.declared.fault.DataFault.{DataFault}
 use Rattle.data_nodes.specs.declared.fault.DataRefusal.{DataRefusal}
 use Rattle.data_nodes.specs.declared.fault.DataRefusal.TheVariants.{Fault, NoMemory}
 use Rattle.data_nodes.specs.Readers.{Read}
@@ -14,6 +15,11 @@ Gives x (Err NoMemory) = Unit {0}
 abbrev pub Refuses : {A : Type 0} → Read A → DataRefusal → Type 0
 Refuses r (Fault f) = r ≡ Err f
 Refuses r NoMemory = Unit {0}
+
+-- the fault that is told is such a fault
+abbrev pub Tells : (DataFault → Type 0) → DataRefusal → Type 0
+Tells IsTold (Fault f) = IsTold f
+Tells IsTold NoMemory = Unit {0}
 
 -- what is read, or the first fault
 abbrev pub Answers : {A B : Type 0} → (A → B) → Read B → Result A DataRefusal → Type 0

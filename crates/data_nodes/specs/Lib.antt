@@ -5,11 +5,10 @@ pub mod Data
 pub mod Storage
 pub mod Readers
 pub mod Faults
+pub mod FirstFault
 pub mod Answers
 pub mod Printed
-pub mod Held
 -- what functions inside promise each other
 pub mod Printing
-pub mod Counting
 pub mod LastRead
 pub mod Parts

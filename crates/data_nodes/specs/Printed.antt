@@ -1,10 +1,10 @@
 -- The node that is printed for a value.
-use Rattle.std.specs.Prelude.{ℕ, pos, Bool, true, false, ◌&&◌, IsTrue, List, [], ◌∷◌, map, codes, if◌then◌else◌}
+use Rattle.std.specs.Prelude.{ℕ, pos, Bool, ◌&&◌, IsTrue, List, [], ◌∷◌, map, codes, if◌then◌else◌}
 use Rattle.value_core.specs.declared.ty.Ty.{Ty}
 use Rattle.value_core.specs.declared.val.Val.{Val}
 use Rattle.value_core.specs.declared.val.Val.TheOpen as one
 use Rattle.value_core.specs.Layer.{Layer, by_level}
-use Rattle.value_core.specs.Everywhere.{everywhere}
+use Rattle.value_core.specs.BigMaps.{has_no_big_map}
 use Rattle.value_core.specs.Sound.{is_plain}
 use Rattle.value_core.specs.Typed.{has_type}
 use Rattle.micheline_text.specs.declared.node.Node.{Node}
@@ -12,6 +12,7 @@ use Rattle.micheline_text.specs.declared.node.Body.TheVariants as body
 use Rattle.micheline_text.specs.Text.{IsTextOf}
 use Rattle.data_nodes.specs.Nodes.{applied, node, word}
 use Rattle.data_nodes.specs.Data.{IsData}
+use Rattle.data_nodes.specs.Storage.{IsStorage}
 
 -- one level of a value, with the node of each part in its place; what isn't data is printed as `{}`
 abbrev pub printed_level : Layer Node → Node
@@ -37,15 +38,10 @@ printed_level _ = node (body.Seq [])
 abbrev pub node_of : Val → Node
 node_of = by_level printed_level
 
--- one level of a value, which isn't a big map
-abbrev pub is_whole_level : Layer Val → Bool
-is_whole_level (one.BigMap place version) = false
-is_whole_level _ = true
-
 -- plain, and without big maps
 abbrev pub is_printable : Val → Bool
-is_printable v = is_plain v && everywhere is_whole_level v
+is_printable v = is_plain v && has_no_big_map v
 
--- the text is one of a node that is data of each type of the value
+-- the text is one of a node that is data of each type of the value, and a storage of each, without entries
 abbrev pub IsReadAgain : List ℕ → Val → Type 0
-IsReadAgain text v = (n : Node) × IsTextOf text (n ∷ []) × ((t : Ty) → IsTrue (has_type v t) → IsData t n v)
+IsReadAgain text v = (n : Node) × IsTextOf text (n ∷ []) × ((t : Ty) → IsTrue (has_type v t) → IsData t n v × IsStorage t n (v, []))

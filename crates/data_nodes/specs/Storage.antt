@@ -1,5 +1,8 @@
--- Storages: their big maps are written as maps, and their entries are given beside the storage.
-use Rattle.std.specs.Prelude.{◌≡◌, ℕ, ◌+◌, List, [], ◌++◌, map}
+-- Storages: big maps are written as maps, and their entries are given beside the storage.
+use Rattle.std.specs.Prelude.{ℕ, Bool, true, ◌&&◌, ◌==◌, IsSomeAnd, IsTrue, List, [], ◌∷◌, map, slice_get}
+use Rattle.std.specs.List.{AllByRecursion, filter}
+use Rattle.std.specs.declared.cmp.Ordering.{Ordering}
+use Rattle.std.specs.Ordering.{is_lt, nat_cmp, ordering_then}
 use Rattle.value_core.specs.declared.ty.Ty.{Ty}
 use Rattle.value_core.specs.declared.ty.Ty.TheVariants as type
 use Rattle.value_core.specs.declared.ty.Ty.TheOpen as ty
@@ -9,8 +12,12 @@ use Rattle.value_core.specs.declared.ty.Ty.TheFolds.{fold-Ty, map-Ty}
 use Rattle.value_core.specs.declared.val.Val.{Val}
 use Rattle.value_core.specs.declared.val.Val.TheVariants as value
 use Rattle.value_core.specs.declared.val.Val.TheOpen as one
-use Rattle.value_core.specs.declared.val.Val.TheViews.{out-Val}
-use Rattle.value_core.specs.Layer.{Layer}
+use Rattle.value_core.specs.declared.val.Val.TheViews.{out-Val, roll-Val}
+use Rattle.value_core.specs.BigMaps.{big_maps_of, is_placed}
+use Rattle.value_core.specs.Layer.{Layer, by_level}
+use Rattle.value_core.specs.Order.{order}
+use Rattle.value_core.specs.Sound.{is_countable, is_plain}
+use Rattle.value_core.specs.Typed.{has_type}
 use Rattle.micheline_text.specs.declared.node.Node.{Node}
 use Rattle.data_nodes.specs.Data.{IsData}
 
@@ -25,45 +32,55 @@ written_level x = let t : Ty = roll-Ty (map-Ty (Ty × Ty) Ty (λ p. p.0) x) in (
 abbrev pub with_maps : Ty → Ty
 with_maps t = (fold-Ty (Ty × Ty) written_level t).1
 
--- ---- the value that is kept: big maps are numbered from the left, each with version 0
+-- ---- the value that is written: its entries in a map for each big map on the path of pairs from the root
 
 -- an entry of a big map: its place, its key and its value
 abbrev pub Entry : Type 0
 Entry = ℕ × Val × Val
 
--- a value of which the entries were taken out
-abbrev pub Parted : Type 0
-Parted = Val × List Entry
+-- the keys and values of the entries with this place
+abbrev pub entries_at : ℕ → List Entry → List (Val × Val)
+entries_at place entries = map (λ e. (e.1, e.2)) (filter (λ e. e.0 == place) entries)
 
--- how many big maps a type has, and what becomes of a value of it where the first has this place
-abbrev pub Parting : Type 0
-Parting = ℕ × (ℕ → Val → Parted)
+-- one level of a storage, whose parts say what stands in their places
+abbrev pub joined_level : List Entry → Layer (Val → Val) → Layer Val → Val
+joined_level entries (one.Pair f g) (one.Pair a b) = value.Pair (f a) (g b)
+joined_level entries (one.BigMap place version) x = value.Map (entries_at place entries)
+joined_level entries _ x = roll-Val x
 
-abbrev pub part_pair : Parting → Parting → ℕ → Val → Layer Val → Parted
-part_pair s t first v (one.Pair a b) =
-    let x : Parted = s.1 first a in let y : Parted = t.1 (first + s.0) b in (value.Pair x.0 y.0, x.1 ++ y.1)
-part_pair s t first v _ = (v, [])
+abbrev pub with_entries : List Entry → Val → Val
+with_entries entries v = by_level {A = Val → Val} (λ x w. joined_level entries x (out-Val w)) v v
 
-abbrev pub part_map : ℕ → Val → Layer Val → Parted
-part_map place v (one.Map entries) = (value.BigMap place 0, map (λ e. (place, e.0, e.1)) entries)
-part_map place v _ = (v, [])
+-- ---- the value that is kept, and the entries beside it
 
-abbrev pub parting_level : Ty-F Parting → Parting
-parting_level (ty.Pair s t) = (s.0 + t.0, λ first v. part_pair s t first v (out-Val v))
-parting_level (ty.BigMap k v) = (1, λ place m. part_map place m (out-Val m))
-parting_level _ = (0, λ first v. (v, []))
+-- a storage with the entries of its big maps
+abbrev pub Kept : Type 0
+Kept = Val × List Entry
 
-abbrev pub parting : Ty → Parting
-parting = fold-Ty Parting parting_level
+-- the entry's place is that of a big map, counted from the left, and its key and value have the types of that map's
+abbrev pub IsEntryOf : List (Ty × Ty) → Entry → Type 0
+IsEntryOf maps e = IsSomeAnd (slice_get maps e.0) (λ types. IsTrue (has_type e.1 types.0) × IsTrue (has_type e.2 types.1))
 
--- the big maps of a type on the path of pairs from its root
-abbrev pub big_maps : Ty → ℕ
-big_maps t = (parting t).0
+-- the order of entries: by place, then by key
+abbrev pub entry_order : Entry → Entry → Ordering
+entry_order d e = ordering_then (nat_cmp d.0 e.0) (order d.1 e.1)
 
--- the value with the places of its big maps, and their entries
-abbrev pub parted : Ty → Val → Parted
-parted t v = (parting t).1 0 v
+-- each entry is below the next one
+abbrev pub entries_ascend : List Entry → Bool
+entries_ascend [] = true
+entries_ascend (d ∷ []) = true
+entries_ascend (d ∷ e ∷ es) = is_lt (entry_order d e) && entries_ascend (e ∷ es)
 
--- the node is data of the type with maps, and this is what it is parted into
-abbrev pub IsStorage : Ty → Node → Parted → Type 0
-IsStorage t n kept = (v : Val) × IsData (with_maps t) n v × (parted t v ≡ kept)
+-- a value of the type with unchanged big maps, each at its own place, and entries of these big maps in order
+pub record IsKept (t : Ty) (kept : Kept) : Type 0 where
+  pub typed : IsTrue (has_type kept.0 t)
+  pub placed : IsTrue (is_placed kept.0 t)
+  pub plain : IsTrue (is_plain kept.0)
+  pub entries : AllByRecursion (IsEntryOf (big_maps_of t)) kept.1
+  pub ascending : IsTrue (entries_ascend kept.1)
+  pub countable : (place : ℕ) → IsTrue (is_countable (entries_at place kept.1))
+
+-- the node is data of the type with maps, and says the storage with its entries in these maps
+pub record IsStorage (t : Ty) (n : Node) (kept : Kept) : Type 0 where
+  pub is : IsKept t kept
+  pub said : IsData (with_maps t) n (with_entries kept.1 kept.0)

@@ -6,7 +6,8 @@ ghost use Rattle.value_core.specs.declared.ty.Ty.TheViews.{out-Ty};
 ghost use Rattle.value_core.specs.declared.val.Val.{Val};
 ghost use Rattle.value_core.specs.Size.{size_of};
 ghost use Rattle.value_core.specs.Sound.{is_countable, is_plain};
-ghost use Rattle.data_nodes.specs.Answers.{Answers, Gives, Refuses};
+ghost use Rattle.data_nodes.specs.Answers.{Answers, Gives, Refuses, Tells};
+ghost use Rattle.data_nodes.specs.FirstFault.{IsDataFault};
 ghost use Rattle.data_nodes.specs.Data.{IsData};
 ghost use Rattle.data_nodes.specs.Readers.{comb, is_comb_of, pair};
 ghost use Rattle.data_nodes.specs.Faults.{alone, applied, data_read, reader, sequence, storage_read, with_one};
@@ -30,7 +31,9 @@ pub fn read_data(alloc: Global, t: &Ty, n: &Node) -> Result<Val, DataRefusal>
     ensures plain { IfOk result (λ v. IsTrue (is_plain v)) }
     // Such data is read, unless memory runs out.
     ensures only { (v : Val) → IsData t.now n.now v → size_of v ≤ 4096 → Gives v result }
-    // The fault is the leftmost one.
+    // The fault is the one that stands before all others, or that the value is too large.
+    ensures first { IfErr result (Tells (IsDataFault t.now n.now)) }
+    // So it is what a reader from the left comes upon.
     ensures fault { IfErr result (Refuses (data_read t.now n.now)) }
 {
     read_small(alloc, t, n)

@@ -11,8 +11,8 @@ use Rattle.micheline_text.specs.declared.node.Body.TheOpen.{Body-F, Node-F}
 use Rattle.micheline_text.specs.declared.node.Body.TheViews.{out-Body}
 use Rattle.micheline_text.specs.declared.node.Body.TheFolds.{fold-Body, fold_out-Body, fold-roll-Node, map-Body}
 use Rattle.data_nodes.specs.Nodes.{Test}
-use Rattle.data_nodes.proofs.TypeLevels as types
-pub use Rattle.data_nodes.proofs.TypeLevels.{Each, out-roll, roll-out}
+use Rattle.value_core.specs.TypeLevels as types
+pub use Rattle.value_core.specs.TypeLevels.{Each, out-roll, roll-out}
 use Rattle.michelson_reader.specs.TypeFaults.{Read, type_at, type_read}
 use Rattle.michelson_reader.specs.Types.{is_type, type_level, word_and_parts}
 

@@ -2,19 +2,17 @@
 
 ghost use Rattle.std.specs.Prelude.{◌≤◌, ◌<◌, ◌^◌, IsTrue, length};
 ghost use Rattle.std.specs.List.{All};
+ghost use Rattle.value_core.specs.BigMaps.{big_maps_of};
 ghost use Rattle.value_core.specs.Sound.{is_plain};
-ghost use Rattle.data_nodes.specs.Storage.{big_maps};
 
 use crate::faults;
 use crate::words::bytes_of;
-use data_nodes::{
-    DataRefusal, has_few_big_maps, is_within_depth, print_data, read_data, read_storage,
-};
+use data_nodes::{DataRefusal, has_few_big_maps, print_data, read_data, read_storage};
 use micheline_text::{Node, TextFault, read_nodes};
 use michelson_reader::{ReadFault, print_script, read_script};
 use std::alloc::{AllocError, Global};
 use value_codec::write_val;
-use value_core::{Ty, Val};
+use value_core::{Ty, Val, is_within_depth};
 
 /// The depth to which values are written as bytes.
 const DEEPEST: u32 = 128;
@@ -118,7 +116,7 @@ fn data(alloc: Global, t: &Ty, node: &Node) -> Result<Vec<u8>, AllocError> {
 
 #[tactic(auto, using(crate::proofs::Everywhere::at_each))]
 fn storage(alloc: Global, t: &Ty, node: &Node) -> Result<Vec<u8>, AllocError>
-    requires { big_maps t.now ≤ 16 }
+    requires { length (big_maps_of t.now) ≤ 16 }
 {
     let (v, entries) = match read_storage(alloc, t, node) {
         Ok(read) => read,

@@ -1,31 +1,43 @@
--- What becomes of the parts of a pair.
-use Rattle.std.proofs.Common.{◌≡◌, ◌∙◌, sym, ap, arith, rules}
+-- One part of a comb more, and the last part.
+use Rattle.std.proofs.Common.{◌≡◌, ◌<◌, ◌∙◌, List, ap, sym, subst, arith, length, rules}
+use Rattle.value_core.specs.declared.ty.Ty.{Ty, size-Ty}
 use Rattle.value_core.specs.declared.ty.Ty.TheVariants as kind
 use Rattle.value_core.specs.declared.ty.Ty.TheViews.{the_lemmas}
-use Rattle.data_nodes.specs.Storage.{big_maps}
-use Rattle.data_nodes.proofs.Partings.{big_maps-pair, pair_part, parts_fit}
+use Rattle.value_core.specs.declared.val.Val.{Val}
+use Rattle.value_core.specs.declared.val.Val.TheVariants as value
+use Rattle.value_core.specs.BigMaps.{big_maps_of}
+use Rattle.value_core.specs.Combs.{comb}
+use Rattle.data_nodes.specs.Parts.{IsPart}
+use Rattle.data_nodes.proofs.Partings.{count-pair, parts_typed, tells_more}
 use Rattle.data_nodes.proofs.storage.+part.Goals as goal
 
 pub part-requires : goal.part-requires
 part-requires t c =
-    let fit = parts_fit c.args.t.now c.in-Pair.s c.in-Pair.u c.args.v c.in-Ok.a c.in-Ok.b c.in-Pair.is c.in-Ok.ensures.pair c.requires.typed in (
-      search (rules, the_lemmas),
-      (omega (arith, c.requires.few, big_maps-pair c.args.t.now c.in-Pair.s c.in-Pair.u c.in-Pair.is, ap big_maps c.get.ensures), rw c.get.ensures fit.0),
-    )
-
-pub part-requires-in-Ok : goal.part-requires-in-Ok
-part-requires-in-Ok t c =
-    let fit = parts_fit c.args.t.now c.in-Pair.s c.in-Pair.u c.args.v c.in-Ok.a c.in-Ok.b c.in-Pair.is c.in-Ok.ensures.pair c.requires.typed in (
-      search (rules, the_lemmas),
+    let smaller : size-Ty c.in-Pair.s < size-Ty c.loop-kind.kind.now = search (rules, the_lemmas) in
+    let typed = parts_typed c.loop-kind.kind.now c.in-Pair.s c.in-Pair.u c.loop-kind.rest c.in-Ok.a c.in-Ok.b c.in-Pair.is c.in-Ok.ensures.pair c.loop-kind.invariant.typed in (
+      omega (arith, smaller, ap size-Ty c.get.ensures, c.loop-kind.invariant.no_deeper),
       (
-        omega (arith, c.requires.few, big_maps-pair c.args.t.now c.in-Pair.s c.in-Pair.u c.in-Pair.is, ap big_maps c.get.ensures, ap big_maps c.get-in-Ok.ensures, c.in_ok-x-in-Ok.ensures.1),
-        rw c.get-in-Ok.ensures fit.1,
+        omega (arith, c.loop-kind.invariant.few, count-pair c.loop-kind.kind.now c.in-Pair.s c.in-Pair.u c.in-Pair.is, ap (λ (r : Ty). length (big_maps_of r)) c.get.ensures),
+        rw c.get.ensures typed.0,
       ),
     )
 
-pub returns-in_ok-pair-in-Ok : goal.returns-in_ok-pair-in-Ok
-returns-in_ok-pair-in-Ok t c =
-    let type_is : c.args.t.now ≡ kind.Pair c.get.result.now c.get-in-Ok.result.now = c.in-Pair.is ∙ sym (λ i. kind.Pair (c.get.ensures i) (c.get-in-Ok.ensures i)) in
-    let whole = pair_part c.args.t.now c.get.result.now c.get-in-Ok.result.now c.args.v c.in-Ok.a c.in-Ok.b c.args.first c.in_ok-x-in-Ok.next c.in_ok-y-in-Ok.last
-    c.in_ok-x-in-Ok.x c.in_ok-y-in-Ok.y c.args.entries.now.items c.part.new.entries.items c.part-in-Ok.new.entries.items type_is c.in-Ok.ensures.pair c.in_ok-x-in-Ok.ensures c.in_ok-y-in-Ok.ensures in
-    rw c.in_ok-pair-in-Ok.ensures whole
+pub loop-kind-preserved : goal.loop-kind-preserved
+loop-kind-preserved t c =
+    let smaller : size-Ty c.in-Pair.u < size-Ty c.loop-kind.kind.now = search (rules, the_lemmas) in
+    let typed = parts_typed c.loop-kind.kind.now c.in-Pair.s c.in-Pair.u c.loop-kind.rest c.in-Ok.a c.in-Ok.b c.in-Pair.is c.in-Ok.ensures.pair c.loop-kind.invariant.typed in
+    let type_is : c.loop-kind.kind.now ≡ kind.Pair c.get.result.now c.get-kind.result.now = c.in-Pair.is ∙ sym (λ i. kind.Pair (c.get.ensures i) (c.get-kind.ensures i)) in
+    let more = tells_more c.args.t.now c.loop-kind.kind.now c.get.result.now c.get-kind.result.now c.args.v c.loop-kind.rest c.in-Ok.a c.in-Ok.b c.in_ok-x-in-Ok.x
+    c.args.first c.loop-kind.next c.in_ok-x-in-Ok.place c.args.entries.now.items c.loop-kind.entries.items c.part.new.entries.items c.loop-kind.firsts
+    type_is c.in-Ok.ensures.pair c.loop-kind.invariant.tells c.in_ok-x-in-Ok.ensures in
+    record {
+      tells = λ y all last q. subst (λ (l : List Val). IsPart c.args.t.now c.args.v c.args.first c.args.entries.now.items (comb value.Pair l y) all last) (sym c.in_ok-push-in-Ok.ensures.ok) (more y all last q);
+      typed = rw c.get-kind.ensures typed.1;
+      few = omega (arith, c.loop-kind.invariant.few, count-pair c.loop-kind.kind.now c.in-Pair.s c.in-Pair.u c.in-Pair.is, ap (λ (r : Ty). length (big_maps_of r)) c.get.ensures, ap (λ (r : Ty). length (big_maps_of r)) c.get-kind.ensures, c.in_ok-x-in-Ok.ensures.1);
+      no_deeper = omega (arith, smaller, ap size-Ty c.get-kind.ensures, c.loop-kind.invariant.no_deeper);
+    }
+
+pub returns : goal.returns
+returns t c =
+    let whole = c.loop-kind.invariant.tells c.in_ok-last.last c.last_part.new.entries.items c.in_ok-last.behind c.in_ok-last.ensures in
+    rw c.in_ok-comb.ensures whole

@@ -1,6 +1,0 @@
--- What is left of a room for things that are counted.
-use Rattle.std.specs.Prelude.{ℕ, ◌-◌, nat_le, if◌then◌else◌, Option, None, Some}
-
--- room for as many more, or nothing where there are too many already
-abbrev pub room_behind : ℕ → ℕ → Option ℕ
-room_behind count room = if nat_le count room then Some (room - count) else None
