@@ -8,3 +8,4 @@ pub mod OrderEquations
 pub mod PlaceLaws
 pub mod KindLaws
 pub mod Passing
+pub mod UseEquations

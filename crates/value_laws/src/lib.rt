@@ -11,6 +11,7 @@
 //! - `places`: which big maps a type has, and where those of a value stand.
 //! - `types`: which type a value without typed parts has, and what values of the types of contracts
 //!   and operations are.
+//! - `uses`: which types may be passed, and which may be compared.
 //! - `induction`: what holds of a value or a type where it holds of the parts always holds.
 //! - `kinds`: the other way round, which types a value of each kind has.
 //!
@@ -24,6 +25,7 @@ mod order;
 mod places;
 mod soundness;
 mod types;
+mod uses;
 
 pub use induction::what_passes_with_its_parts_always_passes;
 pub use kinds::a_value_has_types_of_its_kind_alone;
@@ -32,3 +34,4 @@ pub use order::{order_goes_by_tag_and_parts, tags_go_by_kind};
 pub use places::{big_maps_stand_at_their_own_places, big_maps_stand_on_the_path_of_pairs};
 pub use soundness::{plainness_goes_by_parts, soundness_goes_by_parts};
 pub use types::{typed_calls_have_their_form, types_go_by_kind};
+pub use uses::{comparing_goes_by_parts, passing_goes_by_parts};
