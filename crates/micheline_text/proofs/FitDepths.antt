@@ -19,7 +19,8 @@ use Rattle.micheline_text.specs.Kinds.{is_letter, is_word_byte, begins_note, is_
 use Rattle.micheline_text.specs.Layout.{AllAre}
 use Rattle.micheline_text.specs.Grammar.{Brace, Paren}
 use Rattle.micheline_text.specs.Printed.{Print, is_empty}
-use Rattle.micheline_text.specs.Again.{is_lawful, is_lawful_body, is_word, is_annotation, named_level, is_well_named, Depth, argument_depth, brackets_level, depth_of_body, depth_of_node, brackets}
+use Rattle.micheline_text.specs.Lawful.{is_lawful, is_lawful_body}
+use Rattle.micheline_text.specs.Again.{is_word, is_annotation, named_level, is_well_named, Depth, argument_depth, brackets_level, depth_of_body, depth_of_node, brackets}
 use Rattle.micheline_text.specs.Fits.{IsName, IsNote, IsFitLiteral, IsFitApplication, IsFitArgument, IsFitNode, IsInside, IsPrintable}
 use Rattle.micheline_text.proofs.NodeLevels.{at_node, at_int, at_text, at_bytes, at_prim, at_seq}
 use Rattle.micheline_text.proofs.PrintLemmas.{print_prim, is_lawful-node, is_lawful-int, is_lawful-text, is_lawful-bytes, is_lawful-prim, is_lawful-seq}

@@ -9,6 +9,7 @@ pub mod FirstFault
 pub mod OneFault
 pub mod NodeLevels
 pub mod PrintLemmas
+pub mod LastParts
 pub mod FitDepths
 pub mod BracketTests
 pub mod Laid

@@ -15,7 +15,8 @@ use Rattle.micheline_text.specs.Kinds.{is_digit, is_letter, is_word_byte, begins
 use Rattle.micheline_text.specs.Layout.{AllAre}
 use Rattle.micheline_text.specs.Grammar.{Brace, Paren}
 use Rattle.micheline_text.specs.Printed.{Print, escaped, hex_pair, argument, annotation, next_item, braces, print, print_body, printed}
-use Rattle.micheline_text.specs.Again.{is_lawful, is_well_named, brackets}
+use Rattle.micheline_text.specs.Lawful.{is_lawful}
+use Rattle.micheline_text.specs.Again.{is_well_named, brackets}
 use Rattle.micheline_text.specs.Fits.{IsName, IsNote, IsFitLiteral, IsFitApplication, IsFitArgument, IsFitNode, IsInside}
 use Rattle.micheline_text.proofs.Lays.{decimal_is, pairs_are}
 use Rattle.micheline_text.proofs.PrintLemmas.{print_is, print_int, print_text, print_bytes, print_prim, print_seq}

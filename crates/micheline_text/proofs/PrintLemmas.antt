@@ -1,17 +1,17 @@
 -- The printed text at each kind of node.
-use Rattle.std.proofs.Common.{◌≡◌, ℕ, suc, ℤ, List, [], ◌∷◌, ◌++◌, length, map, Bool, true, false, refl, sym, ap, ◌∙◌, append_assoc, arith, take, get_or, ◌+◌, ◌<◌}
-use Rattle.std.specs.Prelude.{not, ◌&&◌, ◌==◌, nat_lt}
+use Rattle.std.proofs.Common.{◌≡◌, ℕ, ℤ, List, [], ◌∷◌, ◌++◌, length, map, Bool, false, refl, sym, ap, ◌∙◌, append_assoc, arith, take, get_or, ◌+◌, ◌<◌}
+use Rattle.std.specs.Prelude.{not, ◌&&◌, ◌==◌}
 use Rattle.std.specs.List.{flat_map, list_all}
 use Rattle.std.specs.Fmt.{signed_decimal}
 use Rattle.std.proofs.lemmas.List.{append-nil, length-map, map-append, take_more, length-take-le}
 use Rattle.std.proofs.lemmas.Bool.Decides.{nat_tests}
-use Rattle.std.proofs.lemmas.Bool.{lt-ltb}
-use Rattle.std.proofs.lemmas.List.Folds.{list_all-append, list_all-map}
-use Rattle.value_core.specs.Leaves.{is_blob, is_text}
+use Rattle.std.proofs.lemmas.List.Folds.{list_all-map}
+use Rattle.value_core.specs.Lawful.{is_lawful_blob, is_number}
+use Rattle.value_core.specs.Leaves.{is_text}
 use Rattle.std.proofs.lemmas.List.Concat.{flat_map-append}
 use Rattle.micheline_text.specs.declared.node.Node.{Node}
 use Rattle.micheline_text.specs.declared.node.Body.TheVariants as variant
-use Rattle.micheline_text.specs.Again.{is_number, lawful_level, is_lawful, is_lawful_body}
+use Rattle.micheline_text.specs.Lawful.{lawful_level, is_lawful, is_lawful_body}
 use Rattle.micheline_text.specs.Printed.{escaped, hex_pair, Print, argument, annotation, next_item, item, items, braces, is_empty, print_level, print_body, print}
 use Rattle.micheline_text.proofs.NodeLevels.{at_node, at_int, at_text, at_bytes, at_prim, at_seq}
 
@@ -70,7 +70,7 @@ is_lawful-int z = at_int Bool lawful_level z
 pub is_lawful-text : (t : List ℕ) → is_lawful_body (variant.Text t) ≡ is_text t
 is_lawful-text t = at_text Bool lawful_level t
 
-pub is_lawful-bytes : (b : List ℕ) → is_lawful_body (variant.Bytes b) ≡ (is_blob b && list_all (λ x. nat_lt x 256) b)
+pub is_lawful-bytes : (b : List ℕ) → is_lawful_body (variant.Bytes b) ≡ is_lawful_blob b
 is_lawful-bytes b = at_bytes Bool lawful_level b
 
 pub is_lawful-prim : (name : List ℕ) (notes : List (List ℕ)) (args : List Node) → is_lawful_body (variant.Prim name notes args) ≡ list_all is_lawful args
@@ -78,18 +78,6 @@ is_lawful-prim name notes args = at_prim Bool lawful_level name notes args ∙ l
 
 pub is_lawful-seq : (ns : List Node) → is_lawful_body (variant.Seq ns) ≡ list_all is_lawful ns
 is_lawful-seq ns = at_seq Bool lawful_level ns ∙ list_all-map (λ (v : Bool). v) is_lawful ns
-
--- one more node is lawful
-pub lawful_step : (ns : List Node) (i : ℕ) (n : Node) → i < length ns → get_or ns i n ≡ n → list_all is_lawful (take i ns) ≡ true → is_lawful_body n.body ≡ true → list_all is_lawful (take (i + 1) ns) ≡ true
-lawful_step ns i n within is before here =
-    let more : take (i + 1) ns ≡ take i ns ++ n ∷ [] = take_more ns i n within ∙ ap (λ (x : Node). take i ns ++ x ∷ []) is in
-    let this : is_lawful n ≡ true = is_lawful-node n ∙ here in
-    ap (list_all is_lawful) more ∙ list_all-append is_lawful (take i ns) (n ∷ []) ∙ rw (before, this) refl
-
--- bytes of the program are below 256
-pub all_small : (bytes : List ℕ) → ((i : ℕ) → get_or bytes i 0 < 256) → list_all (λ b. nat_lt b 256) bytes ≡ true
-all_small [] small = refl
-all_small (b ∷ bytes) small = rw (lt-ltb b 256 (small 0)) (all_small bytes (λ i. small (suc i)))
 
 pub ruleset printings = (print_is, print_int, print_text, print_bytes, print_prim, print_seq, append_assoc)
 

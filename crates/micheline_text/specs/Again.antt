@@ -1,8 +1,7 @@
 -- Which nodes are printed as texts of the grammar, and what is read of them.
-use Rattle.std.specs.Prelude.{◌≡◌, ℕ, ℤ, pos, negsuc, ◌+◌, ◌-◌, ◌^◌, Bool, true, false, not, ◌&&◌, if◌then◌else◌, int_le, nat_lt, List, [], ◌∷◌, map}
+use Rattle.std.specs.Prelude.{◌≡◌, ℕ, ◌+◌, Bool, true, false, not, ◌&&◌, if◌then◌else◌, List, [], ◌∷◌, map}
 use Rattle.std.specs.List.{list_all}
 use Rattle.value_core.specs.Depth.{greatest}
-use Rattle.value_core.specs.Leaves.{is_text, is_blob}
 use Rattle.micheline_text.specs.declared.node.Node.{Node}
 use Rattle.micheline_text.specs.declared.node.Body.{Body}
 use Rattle.micheline_text.specs.declared.node.Body.TheOpen as one
@@ -17,44 +16,26 @@ use Rattle.micheline_text.specs.Text.{IsTextOf}
 abbrev pub unplaced : Node → Node
 unplaced = fold-Node Body Node roll-Body (λ n. record { at = 0; body = n.body })
 
+-- the same of what stands at a node
 abbrev pub unplaced_body : Body → Body
 unplaced_body = fold-Body Body Node roll-Body (λ n. record { at = 0; body = n.body })
 
--- ---- what the program can hold
-
--- from -(2^127 - 1) to 2^127 - 1
-abbrev pub is_number : ℤ → Bool
-is_number z = int_le (negsuc (2 ^ 127 - 2)) z && int_le z (pos (2 ^ 127 - 1))
-
--- one level of a node, whose parts say whether they are lawful
-abbrev pub lawful_level : Body-F Bool Bool → Bool
-lawful_level (one.Int z) = is_number z
-lawful_level (one.Text t) = is_text t
-lawful_level (one.Bytes b) = is_blob b && list_all (λ x. nat_lt x 256) b
-lawful_level (one.Prim name notes args) = list_all (λ lawful. lawful) args
-lawful_level (one.Seq ns) = list_all (λ lawful. lawful) ns
-
-abbrev pub is_lawful_body : Body → Bool
-is_lawful_body = fold-Body Bool Bool lawful_level (λ n. n.body)
-
--- each number, text and byte literal in the node is one
-abbrev pub is_lawful : Node → Bool
-is_lawful = fold-Node Bool Bool lawful_level (λ n. n.body)
-
 -- ---- what the grammar has
 
--- a word of the grammar, and an annotation
+-- a word of the grammar
 abbrev pub is_word : List ℕ → Bool
 is_word [] = false
 is_word (b ∷ more) = is_letter b && list_all is_word_byte more
 
+-- an annotation of the grammar
 abbrev pub is_annotation : List ℕ → Bool
 is_annotation [] = false
 is_annotation (b ∷ more) = begins_note b && list_all is_note_byte more
 
 -- one level of a node, whose parts say whether they are well named
 abbrev pub named_level : Body-F Bool Bool → Bool
-named_level (one.Prim name notes args) = is_word name && (list_all is_annotation notes && list_all (λ named. named) args)
+named_level (one.Prim name notes args) =
+    is_word name && (list_all is_annotation notes && list_all (λ named. named) args)
 named_level (one.Seq ns) = list_all (λ named. named) ns
 named_level x = true
 
@@ -62,22 +43,27 @@ named_level x = true
 abbrev pub is_well_named : Node → Bool
 is_well_named = fold-Node Bool Bool named_level (λ n. n.body)
 
--- how many brackets go round what stands in a node, and whether it stands in parentheses as an argument
+-- how many brackets go round what stands in a node, and whether it stands in parentheses as an
+-- argument
 abbrev pub Depth : Type 0
 Depth = ℕ × Bool
 
+-- the same with the parentheses that it stands in as an argument
 abbrev pub argument_depth : Depth → ℕ
 argument_depth d = if d.1 then 1 + d.0 else d.0
 
 -- one level of a node, with the depth of each part
 abbrev pub brackets_level : Body-F Depth Depth → Depth
-brackets_level (one.Prim name notes args) = (greatest (map argument_depth args), not (is_empty notes && is_empty args))
+brackets_level (one.Prim name notes args) =
+    (greatest (map argument_depth args), not (is_empty notes && is_empty args))
 brackets_level (one.Seq ns) = (1 + greatest (map (λ d. d.0) ns), false)
 brackets_level x = (0, false)
 
+-- of what stands at a node
 abbrev pub depth_of_body : Body → Depth
 depth_of_body = fold-Body Depth Depth brackets_level (λ n. n.body)
 
+-- of a node
 abbrev pub depth_of_node : Node → Depth
 depth_of_node = fold-Node Depth Depth brackets_level (λ n. n.body)
 

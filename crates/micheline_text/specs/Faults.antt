@@ -12,10 +12,11 @@ use Rattle.micheline_text.specs.Cuts.{IsCutInto}
 abbrev pub GoesOn : Tokens → Type 0
 GoesOn ts = (more : Tokens) × (ns : List Node) × IsText (ts ++ more) ns
 
--- a literal may stand there; an annotation, and so an argument, may
+-- a literal may stand there
 abbrev pub LiteralGoes : Tokens → ℕ → Type 0
 LiteralGoes before at = GoesOn (before ++ (at, token.Number (pos 0)) ∷ [])
 
+-- an annotation may stand there, and so an argument
 abbrev pub NoteGoes : Tokens → ℕ → Type 0
 NoteGoes before at = GoesOn (before ++ (at, token.Note []) ∷ [])
 
@@ -34,6 +35,7 @@ open_after [] at token.CloseParen = []
 open_after (p ∷ places) at token.CloseParen = places
 open_after places at t = places
 
+-- the places of the brackets that are open after these tokens, from the innermost out
 abbrev pub open_places : List ℕ → Tokens → List ℕ
 open_places places [] = places
 open_places places (t ∷ ts) = open_places (open_after places t.0 t.1) ts
@@ -48,14 +50,16 @@ pub record IsStuck (before : Tokens) (at : ℕ) (t : Token) : Type 0 where
   pub goes_on : GoesOn before
   pub stuck : GoesOn (before ++ (at, t) ∷ []) → ⊥
 
--- neither a numeral that is only too wide, nor a bracket that is only too deep, nor what only has no end
+-- neither a numeral that is only too wide, nor a bracket that is only too deep, nor what only has no
+-- end
 pub record IsNoOther (before : Tokens) (at : ℕ) (t : Token) : Type 0 where
   pub not_wide : t ≡ token.Wide → LiteralGoes before at → ⊥
   pub not_deep : (k : Bracket) → t ≡ begins k → BracketGoes k before at → ⊥
   pub not_open : t ≡ token.OpenComment → ⊥
   pub not_unclosed : t ≡ token.OpenText → LiteralGoes before at → ⊥
 
--- something has no end: a bracket, or a string or a comment in the place of a token that could follow
+-- something has no end: a bracket, or a string or a comment in the place of a token that could
+-- follow
 abbrev pub IsOpen : Tokens → Tokens → ℕ → Type 0
 IsOpen before [] p = (open_places [] before ≢ []) × (p ≡ outermost (open_places [] before) 0)
 IsOpen before (t ∷ after) p = (p ≡ outermost (open_places [] before) t.0) ×
@@ -63,11 +67,18 @@ IsOpen before (t ∷ after) p = (p ≡ outermost (open_places [] before) t.0) ×
 
 -- what each fault says of the tokens of a text
 abbrev pub IsFault : Tokens → TextFault → Type 0
-IsFault ts (fault.BadToken p) = (before after : Tokens) × (t : Token) × (ts ≡ before ++ (p, t) ∷ after) × IsStuck before p t × IsNoOther before p t
-IsFault ts (fault.WiderNumber p) = (before after : Tokens) × (ts ≡ before ++ (p, token.Wide) ∷ after) × IsStuck before p token.Wide × LiteralGoes before p
-IsFault ts (fault.TooDeep p) = (before after : Tokens) × (k : Bracket) × (ts ≡ before ++ (p, begins k) ∷ after) × IsStuck before p (begins k) × BracketGoes k before p ×
+IsFault ts (fault.BadToken p) =
+    (before after : Tokens) × (t : Token) × (ts ≡ before ++ (p, t) ∷ after) ×
+    IsStuck before p t × IsNoOther before p t
+IsFault ts (fault.WiderNumber p) =
+    (before after : Tokens) × (ts ≡ before ++ (p, token.Wide) ∷ after) ×
+    IsStuck before p token.Wide × LiteralGoes before p
+IsFault ts (fault.TooDeep p) =
+    (before after : Tokens) × (k : Bracket) × (ts ≡ before ++ (p, begins k) ∷ after) ×
+    IsStuck before p (begins k) × BracketGoes k before p ×
     (256 ≤ length (open_places [] before))
-IsFault ts (fault.Unclosed p) = (before after : Tokens) × (ts ≡ before ++ after) × GoesOn before × IsOpen before after p
+IsFault ts (fault.Unclosed p) =
+    (before after : Tokens) × (ts ≡ before ++ after) × GoesOn before × IsOpen before after p
 IsFault ts fault.NoMemory = ⊥
 
 -- the fault of bytes, by the tokens that they are cut into

@@ -3,9 +3,11 @@ use Rattle.std.specs.Prelude.{ℕ, Bool, ◌&&◌, ◌||◌, ◌==◌, nat_le}
 use Rattle.micheline_text.specs.declared.kinds.Kind.{Kind}
 use Rattle.micheline_text.specs.declared.kinds.Kind.TheVariants as kind
 
+-- 0 to 9
 abbrev pub is_digit : ℕ → Bool
 is_digit b = nat_le 48 b && nat_le b 57
 
+-- A to Z and a to z
 abbrev pub is_letter : ℕ → Bool
 is_letter b = (nat_le 65 b && nat_le b 90) || (nat_le 97 b && nat_le b 122)
 
@@ -33,6 +35,7 @@ is_blank b = (b == 9) || (b == 10) || (b == 13) || (b == 32)
 abbrev pub is_plain : ℕ → Bool
 is_plain b = nat_le 32 b && nat_le b 126
 
+-- what a token of the kind goes on with
 abbrev pub is_kind : Kind → ℕ → Bool
 is_kind kind.Digit = is_digit
 is_kind kind.Word = is_word_byte

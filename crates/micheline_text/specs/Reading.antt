@@ -11,23 +11,33 @@ use Rattle.micheline_text.specs.declared.level.Application.{Application}
 use Rattle.micheline_text.specs.declared.level.Level.{Level}
 use Rattle.micheline_text.specs.declared.level.Level.TheVariants as level
 use Rattle.micheline_text.specs.declared.level.Open.{Open}
+use Rattle.micheline_text.specs.declared.reader.State as held
 use Rattle.micheline_text.specs.declared.token.Token.{Token}
 use Rattle.micheline_text.specs.declared.token.Token.TheVariants as token
 
+-- the node of an application
 abbrev pub node_of : Application → Node
 node_of a = node_at a.at (body.Prim a.name a.notes a.args)
 
+-- an application of which only the word is known
 abbrev pub begun : ℕ → List ℕ → Application
 begun at name = record { at = at; name = name; notes = []; args = [] }
 
+-- one argument more
 abbrev pub with_arg : Application → Node → Application
 with_arg a n = record a { args = a.args ++ n ∷ [] }
 
+-- one annotation more
 abbrev pub with_note : Application → List ℕ → Application
 with_note a note = record a { notes = a.notes ++ note ∷ [] }
 
+-- the level inside those that are open, from the innermost out
 abbrev pub State : Type 0
 State = Level × List Open
+
+-- the state that is held
+abbrev pub shown : held.State → State
+shown s = (s.level, s.opens)
 
 -- after a node at this level; where none may stand, the token at the place is faulty
 abbrev pub taken : ℕ → Level → Node → Result Level TextFault
@@ -37,6 +47,7 @@ taken at (level.Args ns a) n = Ok (level.Args ns (with_arg a n))
 taken at level.Head n = Err (fault.BadToken at)
 taken at (level.Inner a) n = Ok (level.Inner (with_arg a n))
 
+-- after a word
 abbrev pub named : ℕ → Level → List ℕ → Result Level TextFault
 named at (level.Start ns) w = Ok (level.Args ns (begun at w))
 named at (level.After ns) w = Err (fault.BadToken at)
@@ -44,6 +55,7 @@ named at (level.Args ns a) w = Ok (level.Args ns (with_arg a (node_of (begun at 
 named at level.Head w = Ok (level.Inner (begun at w))
 named at (level.Inner a) w = Ok (level.Inner (with_arg a (node_of (begun at w))))
 
+-- after an annotation
 abbrev pub noted : ℕ → Level → List ℕ → Result Level TextFault
 noted at (level.Start ns) note = Err (fault.BadToken at)
 noted at (level.After ns) note = Err (fault.BadToken at)
@@ -51,6 +63,7 @@ noted at (level.Args ns a) note = Ok (level.Args ns (with_note a note))
 noted at level.Head note = Err (fault.BadToken at)
 noted at (level.Inner a) note = Ok (level.Inner (with_note a note))
 
+-- after a `;`
 abbrev pub parted : ℕ → Level → Result Level TextFault
 parted at (level.Start ns) = Err (fault.BadToken at)
 parted at (level.After ns) = Ok (level.Start ns)
@@ -90,7 +103,9 @@ takes_argument (level.Args ns a) = true
 takes_argument level.Head = false
 takes_argument (level.Inner a) = true
 
-abbrev pub after : {A B : Type 0} → Result A TextFault → (A → Result B TextFault) → Result B TextFault
+-- one thing, and by it the next
+abbrev pub after : {A B : Type 0} →
+    Result A TextFault → (A → Result B TextFault) → Result B TextFault
 after (Ok x) f = f x
 after (Err e) f = Err e
 
@@ -102,16 +117,21 @@ first_open os at = unwrap_or (option_map (λ o. o.at) (slice_get (reverse os) 0)
 abbrev pub opened : Bool → Level → ℕ → Level → List Open → Result State TextFault
 opened allowed inner at outer os =
     if allowed then
-    (if nat_le 256 (length os) then Err (fault.TooDeep at) else Ok (inner, record { at = at; outer = outer } ∷ os))
+    (if nat_le 256 (length os) then Err (fault.TooDeep at)
+    else Ok (inner, record { at = at; outer = outer } ∷ os))
     else Err (fault.BadToken at)
 
+-- the new level, inside those that are open
 abbrev pub within : List Open → Result Level TextFault → Result State TextFault
 within os told = after told (λ l. Ok (l, os))
 
+-- the end of a sequence
 abbrev pub close_brace : ℕ → Level → List Open → Result State TextFault
 close_brace at l [] = Err (fault.BadToken at)
-close_brace at l (o ∷ os) = after (ended at l) (λ ns. within os (taken at o.outer (node_at o.at (body.Seq ns))))
+close_brace at l (o ∷ os) =
+    after (ended at l) (λ ns. within os (taken at o.outer (node_at o.at (body.Seq ns))))
 
+-- the end of a parenthesis
 abbrev pub close_paren : ℕ → Level → List Open → Result State TextFault
 close_paren at l [] = Err (fault.BadToken at)
 close_paren at l (o ∷ os) = after (applied at l) (λ n. within os (taken at o.outer n))
@@ -129,7 +149,8 @@ step at token.OpenParen l os = opened (takes_argument l) level.Head at l os
 step at token.CloseParen l os = close_paren at l os
 step at token.Semicolon l os = within os (parted at l)
 step at token.Wide l os = Err (if takes_literal l then fault.WiderNumber at else fault.BadToken at)
-step at token.OpenText l os = Err (if takes_literal l then fault.Unclosed (first_open os at) else fault.BadToken at)
+step at token.OpenText l os =
+    Err (if takes_literal l then fault.Unclosed (first_open os at) else fault.BadToken at)
 step at token.OpenComment l os = Err (fault.Unclosed (first_open os at))
 step at token.Faulty l os = Err (fault.BadToken at)
 
@@ -143,5 +164,6 @@ abbrev pub run : ℕ → State → List (ℕ × Token) → Result (List Node) Te
 run end s [] = finish end s.0 s.1
 run end s (t ∷ ts) = after (step t.0 t.1 s.0 s.1) (λ next. run end next ts)
 
+-- the nodes of a text, or its fault
 abbrev pub reading : List ℕ → Result (List Node) TextFault
 reading bytes = run (length bytes) (level.Start [], []) (tokens_of 0 bytes)

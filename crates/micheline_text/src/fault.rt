@@ -10,7 +10,8 @@ use std::alloc::{AllocError, AllocFailed};
 pub enum TextFault {
     /// A token that can't follow, or bytes that spell none: at their first byte.
     BadToken(usize),
-    /// The text could go on, but something has no end: at the first bracket, quote or comment that has none.
+    /// The text could go on, but something has no end: at the first bracket, quote or comment that
+    /// has none.
     Unclosed(usize),
     /// A numeral beyond 2^127 - 1 on either side of 0: at its first byte.
     WiderNumber(usize),

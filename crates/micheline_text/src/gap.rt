@@ -36,7 +36,8 @@ pub(crate) enum Gap {
 
 fn move_at(mode: Mode, left: usize, b: u8) -> Move
     ensures moved { result ≡ move_at mode left b }
-    ensures within { (total : ℕ) → IsLeft left total → ModeWithin total mode → MoveWithin total result }
+    ensures within { (total : ℕ) →
+        IsLeft left total → ModeWithin total mode → MoveWithin total result }
 {
     match mode {
         Mode::Between if is_blank(b) => Move::On(Mode::Between),

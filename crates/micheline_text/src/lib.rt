@@ -10,6 +10,7 @@
 //! - `reader`: bytes to nodes, token by token. It keeps a stack of open brackets, and calls itself
 //!   nowhere: `level` says what may follow at each place.
 //! - `gap`, `lexer`, `text`, `literals`: what parts tokens, and the token in front.
+//! - `lawfulness`: each literal of a node that the program holds keeps its rule, whatever the node.
 //! - `printer`: nodes to bytes. `brackets`: how deep the printed text goes.
 //! - `fault`: why bytes are no text, and where that is told.
 //!
@@ -23,6 +24,7 @@ mod brackets;
 mod fault;
 mod gap;
 mod kinds;
+mod lawfulness;
 mod laws;
 mod level;
 mod lexer;

@@ -1,6 +1,6 @@
 //! The tree of a text, each node with its place.
 
-ghost use Rattle.std.specs.Prelude.{◌≡◌, ◌↔◌, IfOk, IsTrue};
+ghost use Rattle.std.specs.Prelude.{◌≡◌, ◌↔◌, ◌++◌, ◌∷◌, [], IfOk, IsTrue, MatchOption};
 
 use crate::NoMemory;
 use sqlite_items::Items;
@@ -19,7 +19,7 @@ pub struct Node {
 
 /// What stands at a node.
 #[cycle(nodes)]
-#[derive(Debug, Drop)]
+#[derive(Debug)]
 pub enum Body {
     /// A number.
     Int(Num),
@@ -35,6 +35,44 @@ pub enum Body {
     },
     /// Nodes in braces.
     Seq(Items<Node>),
+}
+
+// The last argument is dropped in the loop: a printed comb is as deep as it has parts.
+impl Drop for Body {
+    #[cycle(dropping)]
+    fn drop(mut self) {
+        loop {
+            match self {
+                Body::Prim {
+                    name,
+                    notes,
+                    mut args,
+                } => {
+                    drop(name);
+                    drop(notes);
+                    let last = args.pop();
+                    drop(args);
+                    match last {
+                        Some(Node { at: _, body }) => self = body,
+                        None => return,
+                    }
+                }
+                Body::Seq(nodes) => return drop(nodes),
+                Body::Text(text) => return drop(text),
+                Body::Bytes(blob) => return drop(blob),
+                Body::Int(_) => return,
+            }
+        }
+    }
+}
+
+/// The last node, and those before it.
+pub(crate) fn last_and_before(nodes: &[Node]) -> Option<(&Node, &[Node])>
+    ensures { MatchOption result
+        (nodes.now ≡ [])
+        (λ parts. nodes.now ≡ parts.1.now ++ parts.0.now ∷ []) }
+{
+    nodes.split_last()
 }
 
 impl Node {

@@ -5,9 +5,9 @@ ghost use Rattle.micheline_text.specs.declared.node.Node.{Node};
 ghost use Rattle.micheline_text.specs.Faults.{IsFaultOf};
 ghost use Rattle.micheline_text.specs.declared.fault.TextFault.TheVariants.{NoMemory};
 ghost use Rattle.micheline_text.specs.Text.{IsTextOf};
-ghost use Rattle.micheline_text.specs.Fault.{Gives};
+ghost use Rattle.micheline_text.specs.Told.{AnswersUnlessFull};
 ghost use Rattle.micheline_text.specs.Lexing.{tokens_of};
-ghost use Rattle.micheline_text.specs.Reading.{close_brace, close_paren, finish, first_open, opened, reading, step, taken, within};
+ghost use Rattle.micheline_text.specs.Reading.{close_brace, close_paren, finish, first_open, opened, reading, shown, step, taken, within};
 ghost use Rattle.micheline_text.specs.Grammar.{node_at};
 
 use crate::NoMemory;
@@ -43,7 +43,7 @@ fn first_open(opens: &Pile<Open>, at: usize) -> usize
 }
 
 fn opened(allowed: bool, inner: Level, at: u32, state: State) -> Result<State, TextFault>
-    ensures { Gives (λ s. (s.level, s.opens)) result (opened allowed inner at state.level state.opens) }
+    ensures { AnswersUnlessFull shown result (opened allowed inner at state.level state.opens) }
 {
     if !allowed {
         return Err(TextFault::BadToken(at as usize));
@@ -60,7 +60,7 @@ fn opened(allowed: bool, inner: Level, at: u32, state: State) -> Result<State, T
 }
 
 fn close_brace(at: usize, state: State) -> Result<State, TextFault>
-    ensures { Gives (λ s. (s.level, s.opens)) result (close_brace at state.level state.opens) }
+    ensures { AnswersUnlessFull shown result (close_brace at state.level state.opens) }
 {
     let State { level, mut opens } = state;
     let Some(open) = opens.pop() else {
@@ -73,7 +73,7 @@ fn close_brace(at: usize, state: State) -> Result<State, TextFault>
 }
 
 fn close_paren(at: usize, state: State) -> Result<State, TextFault>
-    ensures { Gives (λ s. (s.level, s.opens)) result (close_paren at state.level state.opens) }
+    ensures { AnswersUnlessFull shown result (close_paren at state.level state.opens) }
 {
     let State { level, mut opens } = state;
     let Some(open) = opens.pop() else {
@@ -84,7 +84,8 @@ fn close_paren(at: usize, state: State) -> Result<State, TextFault>
 }
 
 fn literal(at: u32, body: Body, state: State) -> Result<State, TextFault>
-    ensures { Gives (λ s. (s.level, s.opens)) result (within state.opens (taken at state.level (node_at at body))) }
+    ensures { AnswersUnlessFull shown result
+        (within state.opens (taken at state.level (node_at at body))) }
 {
     let State { level, opens } = state;
     let level = taken(at as usize, level, Node { at, body })?;
@@ -92,7 +93,7 @@ fn literal(at: u32, body: Body, state: State) -> Result<State, TextFault>
 }
 
 fn step(alloc: Global, at: u32, token: Token, state: State) -> Result<State, TextFault>
-    ensures { Gives (λ s. (s.level, s.opens)) result (step at token state.level state.opens) }
+    ensures { AnswersUnlessFull shown result (step at token state.level state.opens) }
 {
     let place = at as usize;
     match token {
@@ -134,7 +135,7 @@ fn step(alloc: Global, at: u32, token: Token, state: State) -> Result<State, Tex
 }
 
 fn finish(at: usize, state: State) -> Result<Items<Node>, TextFault>
-    ensures { Gives (λ ns. ns) result (finish at state.level state.opens) }
+    ensures { AnswersUnlessFull (λ ns. ns) result (finish at state.level state.opens) }
 {
     let State { level, opens } = state;
     if opens.len() == 0 {
@@ -156,8 +157,10 @@ struct Found {
 fn next(alloc: Global, b: &[u8], at: usize) -> Result<Option<Found>, NoMemory>
     requires { at ≤ length b.now }
     ensures token { IfOk result (λ o. MatchOption o (tokens_of at (drop at b.now) ≡ [])
-        (λ f. tokens_of at (drop at b.now) ≡ (f.at, f.token) ∷ tokens_of f.end (drop f.end b.now))) }
-    ensures within { IfOk result (λ o. IfSome o (λ f. (at < f.end) × (f.at < f.end) × (f.end ≤ length b.now))) }
+        (λ f. tokens_of at (drop at b.now) ≡
+        (f.at, f.token) ∷ tokens_of f.end (drop f.end b.now))) }
+    ensures within { IfOk result (λ o. IfSome o (λ f.
+        (at < f.end) × (f.at < f.end) × (f.end ≤ length b.now))) }
 {
     let rest = rest_from(b, at);
     match skip(rest) {
@@ -181,7 +184,7 @@ fn next(alloc: Global, b: &[u8], at: usize) -> Result<Option<Found>, NoMemory>
 
 fn read(alloc: Global, b: &[u8]) -> Result<Items<Node>, TextFault>
     requires { length b.now < 2 ^ 32 }
-    ensures { Gives (λ ns. ns) result (reading b.now) }
+    ensures { AnswersUnlessFull (λ ns. ns) result (reading b.now) }
 {
     let mut state = State {
         level: Level::Start(Items::new(alloc)),
@@ -203,7 +206,8 @@ pub fn read_nodes(alloc: Global, b: &[u8]) -> Result<Items<Node>, TextFault>
     // What is read is a text of the grammar, with these nodes.
     ensures found { IfOk result (λ ns. IsTextOf b.now ns) }
     // What is a text of the grammar is read, unless memory runs out.
-    ensures only { (ns : List Node) → IsTextOf b.now ns → Gives (λ x. x) result (Ok ns) }
+    ensures only { (ns : List Node) →
+        IsTextOf b.now ns → AnswersUnlessFull (λ x. x) result (Ok ns) }
     // A fault is the first one: up to it a text of the grammar goes on, and with it none does.
     ensures fault { IfErr result (λ f. (f ≡ NoMemory) ⊎ IsFaultOf b.now f) }
 {

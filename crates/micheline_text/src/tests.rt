@@ -38,6 +38,11 @@ fn texts_are_printed_again_or_refused_at_their_first_fault(rt: HostRuntime) -> R
             "PUSH nat 170141183460469231731687303715884105727",
             "PUSH nat 170141183460469231731687303715884105727;",
         ),
+        (
+            "-170141183460469231731687303715884105727",
+            "-170141183460469231731687303715884105727;",
+        ),
+        ("-170141183460469231731687303715884105728", "WiderNumber 0"),
         ("P (", "Unclosed 2"),
         ("1 \"a", "BadToken 2"),
         ("P\"a\"0x00{}-1", "P \"a\" 0x00 {} -1;"),
@@ -113,11 +118,39 @@ fn sequences(alloc: Global, n: u32) -> Result<Vec<u8>, NoMemory> {
     Ok(text)
 }
 
+/// A byte literal of so many bytes.
+fn digits(alloc: Global, bytes: u32) -> Result<Vec<u8>, NoMemory> {
+    let mut text = Vec::new(alloc);
+    text.extend_from_slice(b"0x")?;
+    for _ in 0..bytes {
+        text.extend_from_slice(b"a5")?;
+    }
+    Ok(text)
+}
+
+/// So many parentheses in one another.
+fn applications(alloc: Global, n: u32) -> Result<Vec<u8>, NoMemory> {
+    let mut text = Vec::new(alloc);
+    for _ in 0..n {
+        text.extend_from_slice(b"P (")?;
+    }
+    text.extend_from_slice(b"P 1")?;
+    for _ in 0..n {
+        text.push(b')')?;
+    }
+    Ok(text)
+}
+
 #[test]
-fn the_longest_string_and_the_deepest_brackets_are_read(rt: HostRuntime) -> Result<(), Fail> {
-    assert!(rt; is_printed_again(rt.alloc(), &letters(rt.alloc(), 131_071)?)?);
-    assert!(rt; !is_printed_again(rt.alloc(), &letters(rt.alloc(), 131_072)?)?);
-    assert!(rt; is_printed_again(rt.alloc(), &sequences(rt.alloc(), 255)?)?);
-    assert!(rt; !is_printed_again(rt.alloc(), &sequences(rt.alloc(), 256)?)?);
+fn the_longest_literals_and_the_deepest_brackets_are_read(rt: HostRuntime) -> Result<(), Fail> {
+    let alloc = rt.alloc();
+    assert!(rt; is_printed_again(alloc, &letters(alloc, 131_071)?)?);
+    assert!(rt; !is_printed_again(alloc, &letters(alloc, 131_072)?)?);
+    assert!(rt; is_printed_again(alloc, &digits(alloc, 131_071)?)?);
+    assert!(rt; !is_printed_again(alloc, &digits(alloc, 131_072)?)?);
+    assert!(rt; is_printed_again(alloc, &sequences(alloc, 255)?)?);
+    assert!(rt; !is_printed_again(alloc, &sequences(alloc, 256)?)?);
+    assert!(rt; is_printed_again(alloc, &applications(alloc, 256)?)?);
+    assert!(rt; !is_printed_again(alloc, &applications(alloc, 257)?)?);
     Ok(())
 }

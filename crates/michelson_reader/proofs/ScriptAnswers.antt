@@ -5,7 +5,7 @@ use Rattle.std.specs.Result.{IsErrAnd}
 use Rattle.micheline_text.specs.declared.fault.TextFault.{TextFault}
 use Rattle.micheline_text.specs.declared.fault.TextFault.TheVariants as text
 use Rattle.micheline_text.specs.declared.node.Node.{Node}
-use Rattle.micheline_text.specs.Fault.{Gives as TextGives}
+use Rattle.micheline_text.specs.Told.{AnswersUnlessFull as TextAnswers}
 use Rattle.micheline_text.specs.Faults.{IsFaultOf}
 use Rattle.micheline_text.specs.Text.{IsTextOf}
 use Rattle.michelson_code.specs.declared.script.Script.{Script}
@@ -40,7 +40,7 @@ module _ (bytes : List ℕ) (nodes given : List Node) (same : given ≡ nodes) w
   told_found (Err e) spelt refused = tt
 
   abbrev OnlyThese : Type 0
-  OnlyThese = (ns : List Node) → IsTextOf bytes ns → TextGives (λ ns. ns) (Ok nodes) (Ok ns)
+  OnlyThese = (ns : List Node) → IsTextOf bytes ns → TextAnswers (λ ns. ns) (Ok nodes) (Ok ns)
 
   same_nodes : OnlyThese → (ns : List Node) → IsTextOf bytes ns → given ≡ ns
   same_nodes only ns spelt = let these = only ns spelt in same ∙ cc
@@ -62,12 +62,12 @@ module _ (bytes : List ℕ) (nodes given : List Node) (same : given ≡ nodes) w
 -- ---- what was told of a text that isn't one
 
 module _ (bytes : List ℕ) where
-  text_only : (f : TextFault) → ((ns : List Node) → IsTextOf bytes ns → TextGives (λ ns. ns) (Err f) (Ok ns)) → (s : Script) → IsScriptOf bytes s → of_text f ≡ fault.NoMemory
+  text_only : (f : TextFault) → ((ns : List Node) → IsTextOf bytes ns → TextAnswers (λ ns. ns) (Err f) (Ok ns)) → (s : Script) → IsScriptOf bytes s → of_text f ≡ fault.NoMemory
   text_only text.NoMemory only s is = refl
   text_only f only s is = absurd (let refused = only is.0 is.1 in cc)
 
   pub told_text : (f : TextFault) (told : Result Script ReadFault) → IsErrAnd told (λ e. e ≡ of_text f) →
-      ((ns : List Node) → IsTextOf bytes ns → TextGives (λ ns. ns) (Err f) (Ok ns)) → (s : Script) → IsScriptOf bytes s → Gives s told
+      ((ns : List Node) → IsTextOf bytes ns → TextAnswers (λ ns. ns) (Err f) (Ok ns)) → (s : Script) → IsScriptOf bytes s → Gives s told
   told_text f (Ok read) is only s script = absurd is
   told_text f (Err e) is only s script = is ∙ text_only f only s script
 
