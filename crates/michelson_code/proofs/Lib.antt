@@ -1,2 +1,5 @@
 pub mod Determined
 pub mod Wrapping
+pub mod Folded
+pub mod Nestings
+pub mod InOrder

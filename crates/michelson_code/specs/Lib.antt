@@ -2,6 +2,9 @@
 pub mod Forms
 pub mod Weight
 pub mod Entries
+pub mod Brackets
+pub mod Printable
+pub mod Lawful
 -- lemmas on these, for proofs here and in other crates
 pub mod Levels
 pub mod Inside

@@ -13,6 +13,9 @@
 //! - `copying`, `sameness`: equal instructions, and whether two are equal.
 //! - `script`: a contract's types, the names of its entries, and its code.
 //! - `entries`: the part of a parameter at a way through `or` alone.
+//! - `printable`: whether a script is read again as it is printed: its numbers, pushed values and
+//!   names of entries; `brackets` and `value_brackets`: how deep the brackets of its text go.
+//! - `lawfulness`: what stands in a script is what the program can hold.
 //! - `why`: the causes for which an operation fails.
 //!
 //! What is said of all instructions is said once, of a line of the table: a word, the name of an
@@ -21,25 +24,32 @@
 //! as far as a code is long.
 #![tactic(auto)]
 
+mod brackets;
 mod copying;
 mod entries;
 mod instr;
+mod lawfulness;
 mod laws;
+mod printable;
 mod sameness;
 mod script;
 mod table;
 #[cfg(test)]
 mod tests;
+mod value_brackets;
 mod weighing;
 mod why;
 
+pub use brackets::brackets_within;
 pub use copying::copy_code;
 pub use entries::type_at;
 pub use instr::{Code, Instr};
+pub use lawfulness::script_is_lawful;
 pub use laws::{
     a_wrapped_param_has_the_type_of_the_whole, an_instruction_weighs_and_counts_its_bodies,
     codes_one_after_another_add_up, instructions_that_are_written_alike_are_equal,
 };
+pub use printable::{are_entries_of, is_count, is_printable, is_pushed};
 pub use sameness::same_code;
 pub use script::{Script, Side};
 pub use table::{Form, Operand, Operands, cost, form_of};

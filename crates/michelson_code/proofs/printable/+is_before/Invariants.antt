@@ -1,0 +1,6 @@
+-- Each call is of a shorter way.
+use Rattle.std.proofs.Common.{length}
+use Rattle.michelson_code.proofs.printable.+is_before.Given as goal
+
+abbrev pub decreases-is_before : goal.decreases-is_before
+decreases-is_before l = length l.a.now
