@@ -4,7 +4,7 @@ use Rattle.std.proofs.lemmas.List.{map-append, take_more}
 use Rattle.michelson_code.specs.declared.script.Side.{Side}
 use Rattle.michelson_code.specs.declared.script.Side.TheVariants.{Left, Right}
 use Rattle.michelson_reader.specs.declared.parameter_nodes.EntryBelow.{EntryBelow}
-use Rattle.michelson_reader.specs.Entries.{Entry, Path}
+use Rattle.michelson_code.specs.Entries.{Entry, Path}
 use Rattle.michelson_reader.specs.Printed.{names_below, names_here}
 use Rattle.michelson_reader.specs.Printing.{below_of, entry_of, note_of, notes_of}
 

@@ -33,3 +33,10 @@ pub mod NodeReads
 pub mod WordFaults
 pub mod Ways
 pub mod OneScript
+pub mod SoundNodes
+pub mod SoundValues
+pub mod SoundTypes
+pub mod SoundCode
+pub mod SoundParameter
+pub mod SoundScript
+pub mod OperandFaults

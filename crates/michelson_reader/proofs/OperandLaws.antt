@@ -22,7 +22,8 @@ use Rattle.data_nodes.specs.Data.{IsData, is_written}
 use Rattle.data_nodes.specs.Faults.{data_read}
 use Rattle.data_nodes.specs.Nodes.{is_number, is_number_body}
 use Rattle.michelson_reader.specs.declared.fault.ReadFault.TheVariants as fault
-use Rattle.michelson_reader.specs.Code.{is_count, is_entry, is_pushed}
+use Rattle.michelson_code.specs.Printable.{is_count}
+use Rattle.michelson_reader.specs.Code.{is_entry, is_read_at}
 use Rattle.michelson_reader.specs.CodeFaults.{data_fault, entry, left_out_in, number, number_body, pushed, told}
 use Rattle.michelson_reader.specs.Entries.{entry_in, names_in, only_name}
 use Rattle.michelson_reader.proofs.ReadLemmas.{no_form-fails}
@@ -118,12 +119,12 @@ not_told n (Ok x) v h = cc
 not_told n (Err f) v h = absurd (no_data f (left_out_in n) v h)
 
 module _ (data-read : (n : Node) (t : Ty) (v : Val) → (data_read t n ≡ Ok v) ↔ (IsData t n v × (size_of v ≤ 4096))) where
-  pub pushed-read : (t : Ty) (v : Val) (n : Node) → (pushed t n ≡ Ok v) ↔ IsTrue (is_pushed t v && is_written v n)
+  pub pushed-read : (t : Ty) (v : Val) (n : Node) → (pushed t n ≡ Ok v) ↔ IsTrue (is_read_at t v && is_written v n)
   pushed-read t v n = (
     λ h. let is = (data-read n t v).0 (not_told n (data_read t n) v h) in
-        and_from _ _ (and_from _ _ (and_from _ _ is.0.0 is.0.2) (le-leb (size_of v) 4096 is.1)) is.0.1,
+        and_from _ _ (and_from _ _ (and_from _ _ is.0.0 (le-leb (size_of v) 4096 is.1)) is.0.2) is.0.1,
     λ h. let parts = and_parts _ _ h in
         let value = and_parts _ _ parts.0 in
         let typed = and_parts _ _ value.0 in
-        ap (told n) ((data-read n t v).1 ((typed.0, parts.1, typed.1), leb-true (size_of v) 4096 value.1)),
+        ap (told n) ((data-read n t v).1 ((typed.0, parts.1, value.1), leb-true (size_of v) 4096 typed.1)),
   )

@@ -11,7 +11,8 @@ use Rattle.micheline_text.specs.declared.node.Body.{Body}
 use Rattle.micheline_text.specs.declared.node.Body.TheOpen as body
 use Rattle.micheline_text.specs.declared.node.Body.TheOpen.{Body-F}
 use Rattle.micheline_text.specs.declared.node.Body.TheViews.{out-Body}
-use Rattle.michelson_reader.specs.Entries.{Entry, both, entries_below, entries_level, entries_of, entry_in, in_order, own}
+use Rattle.michelson_code.specs.Entries.{Entry}
+use Rattle.michelson_reader.specs.Entries.{both, entries_below, entries_level, entries_of, entry_in, in_order, own}
 use Rattle.michelson_reader.specs.Script.{IsParameter}
 use Rattle.michelson_reader.specs.ScriptFaults.{Parameter, below, either, other, parameter_at, parameter_read}
 use Rattle.michelson_reader.specs.TypeFaults.{Read, no_form, then_read, type_read}

@@ -6,7 +6,8 @@ use Rattle.micheline_text.specs.declared.node.Body.TheOpen as body
 use Rattle.micheline_text.specs.declared.node.Body.TheOpen.{Body-F, Node-F}
 use Rattle.micheline_text.specs.declared.node.Body.TheViews.{out-Body, roll-Body}
 use Rattle.micheline_text.specs.declared.node.Body.TheFolds.{fold-Body, fold-Node, fold_out-Body, fold-roll-Node, map-Body}
-use Rattle.michelson_reader.specs.Entries.{Entry, entries_level, entries_of}
+use Rattle.michelson_code.specs.Entries.{Entry}
+use Rattle.michelson_reader.specs.Entries.{entries_level, entries_of}
 use Rattle.michelson_reader.specs.ScriptFaults.{ParameterReader, body_of, parameter_at, parameter_read, reader_at}
 use Rattle.michelson_reader.proofs.NodeInduction.{Each, induction, parts_of, roll-out}
 

@@ -9,7 +9,7 @@ use Rattle.value_core.specs.declared.ty.Ty.TheFolds.{fold-Ty, fold_out-Ty, fold-
 use Rattle.micheline_text.specs.declared.node.Node.{Node}
 use Rattle.micheline_text.specs.declared.node.Body.TheVariants as body
 use Rattle.data_nodes.specs.Nodes.{node}
-use Rattle.michelson_reader.specs.Entries.{Entry}
+use Rattle.michelson_code.specs.Entries.{Entry}
 use Rattle.michelson_reader.specs.Printed.{PartNode, names_here, noted, part_nodes, type_node}
 use Rattle.michelson_reader.specs.Printing.{annotated, note_of, part_level, part_node, type_parts}
 use Rattle.michelson_reader.specs.Types.{word_and_parts}
@@ -53,7 +53,8 @@ back _ = refl
 level_agrees : (x : Ty-F Ty) → plain_nodes x ≡ map-Ty Ty Node type_node x
 level_agrees x = subst (λ (x : Ty-F Ty). plain_nodes x ≡ map-Ty Ty Node type_node x) (back x) (parts_agree (map-Ty Ty Agreed (λ t. (t, agrees t)) x))
 
-word_of-map : {A B : Type 0} (f : A → B) (x : Ty-F A) → (word_and_parts (map-Ty A B f x)).0 ≡ (word_and_parts x).0
+-- parts don't turn the word of a type
+pub word_of-map : {A B : Type 0} (f : A → B) (x : Ty-F A) → (word_and_parts (map-Ty A B f x)).0 ≡ (word_and_parts x).0
 word_of-map f ty.Unit = refl
 word_of-map f _ = refl
 

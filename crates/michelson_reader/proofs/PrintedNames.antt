@@ -1,14 +1,14 @@
 -- The names of a printed parameter are read again, where they stand at nodes of it and in order.
 use Rattle.std.proofs.Common.{◌≡◌, ℕ, Bool, true, false, List, [], ◌∷◌, ◌++◌, map, Option, None, Some, refl, ap, sym, subst, ◌∙◌}
-use Rattle.std.specs.Prelude.{codes, IsTrue}
-use Rattle.std.specs.List.{AllByRecursion}
+use Rattle.std.specs.Prelude.{codes, is_some, IsTrue}
+use Rattle.std.specs.List.{AllByRecursion, list_all}
 use Rattle.std.specs.Option.{option_and_then}
 use Rattle.std.proofs.lemmas.Bool.{and_from, and_parts}
 use Rattle.value_core.specs.declared.ty.Ty.{Ty}
 use Rattle.value_core.specs.declared.ty.Ty.TheOpen as ty
 use Rattle.value_core.specs.declared.ty.Ty.TheOpen.{Ty-F}
 use Rattle.value_core.specs.declared.ty.Ty.TheViews.{out-Ty}
-use Rattle.value_core.specs.declared.ty.Ty.TheFolds.{fold_out-Ty, map-Ty}
+use Rattle.value_core.specs.declared.ty.Ty.TheFolds.{fold-Ty, fold_out-Ty, map-Ty}
 use Rattle.value_core.specs.Leaves.{is_name}
 use Rattle.micheline_text.specs.declared.node.Node.{Node}
 use Rattle.micheline_text.specs.declared.node.Body.{Body}
@@ -16,13 +16,44 @@ use Rattle.micheline_text.specs.declared.node.Body.TheOpen.{Body-F}
 use Rattle.michelson_code.specs.declared.script.Side.{Side}
 use Rattle.michelson_code.specs.declared.script.Side.TheVariants.{Left, Right}
 use Rattle.data_nodes.proofs.NodeLevels.{shows_prim}
-use Rattle.michelson_reader.specs.Entries.{Entry, Path, entries_below, entries_level, entries_of, entry_in, from, in_order, names_in, only_name, own}
+use Rattle.michelson_code.specs.Entries.{Entry, Path, are_in_order, part_at, type_at}
+use Rattle.michelson_code.specs.Lawful.{is_lawful_entry}
+use Rattle.michelson_code.specs.Printable.{are_entries_of, stands_in}
+use Rattle.michelson_reader.specs.Entries.{entries_below, entries_level, entries_of, entry_in, from, in_order, names_in, only_name, own}
 use Rattle.michelson_reader.specs.Printed.{PartNode, names_below, names_here, noted, parameter_node, part_nodes}
 use Rattle.michelson_reader.specs.Types.{word_and_parts}
-use Rattle.michelson_reader.specs.Printable.{are_in_order, is_reached, reached_level}
 use Rattle.michelson_reader.proofs.TypeLevels.{Each, induction, parts_of}
 use Rattle.michelson_reader.proofs.PrintedTypes.{part_of, part_of-level}
 use Rattle.michelson_reader.proofs.ParameterLevels.{entries-level, parts_entries}
+
+-- ---- ways through `or` alone
+
+-- one level of a type, whose parts say which ways lead to a node of theirs through `or` alone
+abbrev reached_level : Ty-F (Path → Bool) → Path → Bool
+reached_level (ty.Or s t) (Left ∷ path) = s path
+reached_level (ty.Or s t) (Right ∷ path) = t path
+reached_level x [] = true
+reached_level x path = false
+
+abbrev is_reached : Ty → Path → Bool
+is_reached = fold-Ty (Path → Bool) reached_level
+
+reached_here : (x : Ty-F (Path → Bool)) → reached_level x [] ≡ true
+reached_here (ty.Or s t) = refl
+reached_here _ = refl
+
+reached_part : (side : Side) (path : Path) (x : Ty-F Ty) → ((t : Ty) → is_reached t path ≡ is_some (type_at path t)) →
+    reached_level (map-Ty Ty (Path → Bool) is_reached x) (side ∷ path) ≡ is_some (option_and_then (type_at path) (part_at side x))
+reached_part Left path (ty.Or s t) below = below s
+reached_part Right path (ty.Or s t) below = below t
+reached_part Left path x below = refl
+reached_part Right path x below = refl
+
+-- they lead to a node
+reached-is : (path : Path) (t : Ty) → is_reached t path ≡ is_some (type_at path t)
+reached-is [] t = ap (λ (f : Path → Bool). f []) (fold_out-Ty (Path → Bool) reached_level t) ∙ reached_here (map-Ty Ty (Path → Bool) is_reached (out-Ty t))
+reached-is (side ∷ path) t =
+    ap (λ (f : Path → Bool). f (side ∷ path)) (fold_out-Ty (Path → Bool) reached_level t) ∙ reached_part side path (out-Ty t) (reached-is path)
 
 -- ---- names in order are the one here, those below left and those below right
 
@@ -204,7 +235,18 @@ found_step t h names good order =
     ∙ subst (λ (es : List Entry). entries_of (noted (names_here es) (part_nodes (map-Ty Ty PartNode part_of x) es)) ≡ Some es) (sym s.is)
     (level_found x h s.here s.left s.right (subst (AllByRecursion (IsGood (reaching x))) s.is fit) s.left_order s.right_order)
 
+reached_names : (t : Ty) → FoundAgain t
+reached_names = induction FoundAgain found_step
+
+each_good : (t : Ty) (names : List Entry) → list_all is_lawful_entry names ≡ true → list_all (stands_in t) names ≡ true → AllByRecursion (λ e. IsTrue (is_name e.1) × IsTrue (is_reached t e.0)) names
+each_good t [] lawful stands = tt
+each_good t (e ∷ names) lawful stands =
+    let name = and_parts _ _ lawful in
+    let place = and_parts _ _ stands in
+    ((name.0, reached-is e.0 t ∙ place.0), each_good t names name.1 place.1)
+
 -- names that stand at nodes of the parameter, in order, are those of the node that is printed for it
-pub names_are_found : (t : Ty) (names : List Entry) → AllByRecursion (λ e. IsTrue (is_name e.1) × IsTrue (is_reached t e.0)) names → are_in_order names ≡ true →
-    entries_of (parameter_node t names) ≡ Some names
-names_are_found = induction FoundAgain found_step
+pub names_are_found : (t : Ty) (names : List Entry) → list_all is_lawful_entry names ≡ true → are_entries_of t names ≡ true → entries_of (parameter_node t names) ≡ Some names
+names_are_found t names lawful entries =
+    let both = and_parts _ _ entries in
+    reached_names t names (each_good t names lawful both.0) both.1

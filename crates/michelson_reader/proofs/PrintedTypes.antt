@@ -12,7 +12,7 @@ use Rattle.micheline_text.specs.declared.node.Node.{Node}
 use Rattle.michelson_code.specs.declared.script.Side.TheVariants.{Left, Right}
 use Rattle.data_nodes.specs.Nodes.{Test, all_are, is_applied, is_applied_body}
 use Rattle.data_nodes.proofs.NodeLevels.{shows_prim}
-use Rattle.michelson_reader.specs.Entries.{Entry}
+use Rattle.michelson_code.specs.Entries.{Entry}
 use Rattle.michelson_reader.specs.Types.{is_pair, is_pair_body, is_type, type_level, word_and_parts}
 use Rattle.michelson_reader.specs.Printed.{PartNode, names_below, names_here, noted, parameter_node, part_nodes, type_node}
 use Rattle.michelson_reader.proofs.TypeLevels.{Each, induction, is_type-level, parts_of}

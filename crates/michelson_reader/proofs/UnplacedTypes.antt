@@ -20,7 +20,8 @@ use Rattle.data_nodes.specs.Nodes.{Test, applied}
 use Rattle.data_nodes.proofs.Unplaced.{IgnoresPlaces, are_items-unplaced, bare, is_applied-unplaced, level-unplaced}
 use Rattle.data_nodes.proofs.NodeLevels.{shows_prim}
 use Rattle.michelson_reader.specs.Types.{is_pair, is_pair_body, is_type, type_level, word_and_parts}
-use Rattle.michelson_reader.specs.Entries.{Entry, entries_below, entries_level, entries_of, entry_in}
+use Rattle.michelson_code.specs.Entries.{Entry}
+use Rattle.michelson_reader.specs.Entries.{entries_below, entries_level, entries_of, entry_in}
 use Rattle.michelson_reader.proofs.NodeInduction as nodes
 use Rattle.michelson_reader.proofs.ParameterLevels.{entries-level, parts_entries}
 use Rattle.michelson_reader.proofs.TypeLevels.{Each, induction, is_type-level, parts_of}

@@ -16,7 +16,8 @@ use Rattle.micheline_text.specs.declared.node.Body.TheViews.{out-Body, roll-Body
 use Rattle.michelson_code.specs.declared.script.Side.{Side}
 use Rattle.michelson_code.specs.declared.script.Side.TheVariants.{Left, Right}
 use Rattle.michelson_reader.specs.declared.fault.ReadFault.{ReadFault}
-use Rattle.michelson_reader.specs.Entries.{Entry, Path, entry_in, from, in_order, own}
+use Rattle.michelson_code.specs.Entries.{Entry, Path}
+use Rattle.michelson_reader.specs.Entries.{entry_in, from, in_order, own}
 use Rattle.michelson_reader.specs.Returned.{Answers, IsPart, Refuses, below_way}
 use Rattle.michelson_reader.specs.ScriptFaults.{below, either, other, parameter_at, parameter_read}
 use Rattle.michelson_reader.specs.TypeFaults.{Read, no_form, then_read, type_read}

@@ -1,12 +1,10 @@
 -- The grammar of instructions: a node is written for one as the table of forms says.
-use Rattle.std.specs.Prelude.{ℕ, pos, Bool, true, false, ◌&&◌, nat_le, List, [], ◌∷◌, map, Option, None, Some}
+use Rattle.std.specs.Prelude.{ℕ, pos, Bool, true, false, ◌&&◌, List, [], ◌∷◌, map, Option, None, Some}
 use Rattle.std.specs.Cmp.Lexicographic.{pointwise}
 use Rattle.std.specs.Str.{bytes_eq}
 use Rattle.value_core.specs.declared.ty.Ty.{Ty}
 use Rattle.value_core.specs.declared.val.Val.{Val}
 use Rattle.value_core.specs.Leaves.{is_name}
-use Rattle.value_core.specs.Size.{size_of}
-use Rattle.value_core.specs.Typed.{has_type}
 use Rattle.micheline_text.specs.declared.node.Node.{Node}
 use Rattle.micheline_text.specs.declared.node.Body.{Body}
 use Rattle.micheline_text.specs.declared.node.Body.TheOpen as body
@@ -20,21 +18,18 @@ use Rattle.data_nodes.specs.Nodes.{Test, all_are, is_number, is_sequence}
 use Rattle.data_nodes.specs.Data.{is_written}
 use Rattle.michelson_reader.specs.Entries.{names_in}
 use Rattle.michelson_code.specs.Forms.{Form, Operand, ANumber, AType, SomeData, ACode, form_at}
+use Rattle.michelson_code.specs.Printable.{is_count, is_datum}
 use Rattle.michelson_reader.specs.Types.{is_type}
 
--- a number of an instruction is at most 65,535
-abbrev pub is_count : ℕ → ℕ → Bool
-is_count least n = nat_le least n && nat_le n 65535
-
--- a value that may be pushed at a type; each address is one
-abbrev pub is_pushed : Ty → Val → Bool
-is_pushed t v = has_type v t && has_addresses v && nat_le (size_of v) 4096
+-- a value that is read at a type; each address is one
+abbrev pub is_read_at : Ty → Val → Bool
+is_read_at t v = is_datum t v && has_addresses v
 
 -- what an operand is written as
 abbrev pub is_operand : Operand Test → Test
 is_operand (ANumber least n) node = is_count least n && is_number (pos n) node
 is_operand (AType t) node = is_type t node
-is_operand (SomeData t v) node = is_pushed t v && is_written v node
+is_operand (SomeData t v) node = is_read_at t v && is_written v node
 is_operand (ACode c) node = is_sequence c node
 
 -- the annotations give this name of an entry, or none; at other words they say nothing
@@ -43,6 +38,7 @@ is_entry None notes = true
 is_entry (Some None) notes = pointwise bytes_eq (names_in notes) []
 is_entry (Some (Some name)) notes = pointwise bytes_eq (names_in notes) (name ∷ []) && is_name name
 
+-- what a word with its annotations and arguments must be
 abbrev pub is_form_body : Form Test → Body-F Body Node → Bool
 is_form_body f (body.Prim name notes args) = bytes_eq name f.word && is_entry f.entry notes && all_are (map is_operand f.operands) args
 is_form_body f _ = false

@@ -9,16 +9,19 @@ use Rattle.micheline_text.specs.declared.node.Body.TheOpen.{Body-F}
 use Rattle.micheline_text.specs.declared.node.Body.TheFolds.{fold-Node}
 use Rattle.michelson_code.specs.declared.script.Side.{Side}
 use Rattle.michelson_code.specs.declared.script.Side.TheVariants.{Left, Right}
+use Rattle.michelson_code.specs.Entries.{Entry}
 
 -- the annotations that begin with `%`, without it
 abbrev pub name_in : List ℕ → List (List ℕ)
 name_in [] = []
 name_in (b ∷ note) = if b == 37 then note ∷ [] else []
 
+-- all of them
 abbrev pub names_in : List (List ℕ) → List (List ℕ)
 names_in [] = []
 names_in (note ∷ notes) = name_in note ++ names_in notes
 
+-- none, or one that is a name
 abbrev pub only_name : List (List ℕ) → Option (Option (List ℕ))
 only_name [] = Some None
 only_name (name ∷ []) = if is_name name then Some (Some name) else None
@@ -28,13 +31,7 @@ only_name (name ∷ other ∷ more) = None
 abbrev pub entry_in : List (List ℕ) → Option (Option (List ℕ))
 entry_in notes = only_name (names_in notes)
 
--- the way from a node down, and the name that stands there
-abbrev pub Path : Type 0
-Path = List Side
-
-abbrev pub Entry : Type 0
-Entry = Path × List ℕ
-
+-- the name of a node
 abbrev pub own : Option (List ℕ) → List Entry
 own None = []
 own (Some name) = ([], name) ∷ []
@@ -47,13 +44,16 @@ from side = map (λ e. (side ∷ e.0, e.1))
 abbrev pub in_order : Option (List ℕ) → List Entry → List Entry → List Entry
 in_order name left right = own name ++ (from Left left ++ from Right right)
 
+-- where both parts are fit
 abbrev pub both : Option (List ℕ) → Option (List Entry) → Option (List Entry) → Option (List Entry)
 both name left right = option_and_then (λ ls. option_map (λ rs. in_order name ls rs) right) left
 
+-- the names below a word, whose own is the last
 abbrev pub entries_below : List ℕ → List (Option (List Entry)) → Option (List ℕ) → Option (List Entry)
 entries_below name (x ∷ y ∷ []) e = if bytes_eq name (codes "or") then both e x y else Some (own e)
 entries_below name _ e = Some (own e)
 
+-- one level of a node
 abbrev pub entries_level : Body-F (Option (List Entry)) (Option (List Entry)) → Option (List Entry)
 entries_level (body.Prim name notes args) = option_and_then (entries_below name args) (entry_in notes)
 entries_level _ = Some []

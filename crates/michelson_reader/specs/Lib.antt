@@ -6,10 +6,11 @@ pub mod Script
 pub mod Names
 pub mod TypeFaults
 pub mod CodeFaults
+pub mod FirstAtFault
 pub mod ScriptFaults
 pub mod Answers
 pub mod Printed
-pub mod Printable
+pub mod Lines
 -- what functions inside promise each other
 pub mod Printing
 pub mod Makers

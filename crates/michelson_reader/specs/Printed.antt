@@ -14,7 +14,7 @@ use Rattle.michelson_code.specs.declared.script.Side.{Side}
 use Rattle.michelson_code.specs.declared.script.Side.TheVariants.{Left, Right}
 use Rattle.data_nodes.specs.Nodes.{applied, node}
 use Rattle.data_nodes.specs.Printed.{node_of}
-use Rattle.michelson_reader.specs.Entries.{Entry}
+use Rattle.michelson_code.specs.Entries.{Entry}
 use Rattle.michelson_reader.specs.Types.{word_and_parts}
 use Rattle.michelson_code.specs.Forms.{Form, Operand, ANumber, AType, SomeData, ACode, form_at}
 

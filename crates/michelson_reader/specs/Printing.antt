@@ -1,5 +1,5 @@
 -- What the nodes that are printed are made of.
-use Rattle.std.specs.Prelude.{ℕ, List, [], ◌∷◌, map, Option}
+use Rattle.std.specs.Prelude.{ℕ, List, [], ◌∷◌, map}
 use Rattle.value_core.specs.declared.ty.Ty.{Ty}
 use Rattle.value_core.specs.declared.ty.Ty.TheOpen.{Ty-F}
 use Rattle.value_core.specs.declared.ty.Ty.TheViews.{out-Ty}
@@ -10,7 +10,7 @@ use Rattle.michelson_code.specs.declared.instr.Instr.{Instr}
 use Rattle.michelson_code.specs.declared.script.Side.{Side}
 use Rattle.data_nodes.specs.Nodes.{node}
 use Rattle.michelson_reader.specs.declared.parameter_nodes.EntryBelow.{EntryBelow}
-use Rattle.michelson_reader.specs.Entries.{Entry}
+use Rattle.michelson_code.specs.Entries.{Entry}
 use Rattle.michelson_code.specs.Forms.{Operand}
 use Rattle.michelson_code.specs.Levels.{operand_map}
 use Rattle.michelson_reader.specs.Printed.{PartNode, instruction_node, names_below, names_here, noted, operand_node, part_nodes, type_node}

@@ -11,7 +11,7 @@ use Rattle.michelson_reader.specs.declared.fault.ReadFault.TheVariants as fault
 use Rattle.michelson_reader.specs.declared.parameter.Parameter as held_parameter
 use Rattle.michelson_reader.specs.declared.script.Sections as held_sections
 use Rattle.michelson_reader.specs.CodeFaults.{Reader, code_read, instruction_read}
-use Rattle.michelson_reader.specs.Entries.{Entry, Path}
+use Rattle.michelson_code.specs.Entries.{Entry, Path}
 use Rattle.michelson_reader.specs.ScriptFaults.{Parameter, Sections, once, parameter_read}
 use Rattle.michelson_reader.specs.TypeFaults.{Read, then_read, type_read}
 

@@ -10,7 +10,8 @@ use Rattle.micheline_text.specs.declared.node.Body.TheViews.{out-Body}
 use Rattle.micheline_text.specs.Text.{IsTextOf}
 use Rattle.michelson_code.specs.declared.script.Script.{Script}
 use Rattle.michelson_reader.specs.Code.{is_code}
-use Rattle.michelson_reader.specs.Entries.{Entry, entries_of}
+use Rattle.michelson_code.specs.Entries.{Entry}
+use Rattle.michelson_reader.specs.Entries.{entries_of}
 use Rattle.michelson_reader.specs.Types.{is_type}
 
 -- a word with one argument, of which this holds

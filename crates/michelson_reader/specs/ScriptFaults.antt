@@ -14,7 +14,8 @@ use Rattle.michelson_code.specs.declared.instr.Instr.{Instr}
 use Rattle.michelson_code.specs.declared.script.Script.{Script}
 use Rattle.michelson_reader.specs.declared.fault.ReadFault.TheVariants as fault
 use Rattle.michelson_reader.specs.CodeFaults.{code_read}
-use Rattle.michelson_reader.specs.Entries.{Entry, entry_in, in_order, own}
+use Rattle.michelson_code.specs.Entries.{Entry}
+use Rattle.michelson_reader.specs.Entries.{entry_in, in_order, own}
 use Rattle.michelson_reader.specs.Script.{unbraced}
 use Rattle.michelson_reader.specs.TypeFaults.{Read, no_form, then_read, type_read}
 

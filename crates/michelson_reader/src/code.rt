@@ -149,7 +149,8 @@ fn with_two(
     first: &Node,
     second: &Node,
 ) -> Result<Instr, ReadFault>
-    ensures { Answers (λ i. i) (with_two at name.now (read_of first.now) (read_of second.now)) result }
+    ensures { Answers (λ i. i)
+        (with_two at name.now (read_of first.now) (read_of second.now)) result }
 {
     if is_word(name, "PUSH") {
         return push(alloc, first, second);

@@ -12,9 +12,9 @@
 //!   nodes that are printed.
 //! - `fault`: why bytes are no script, and where that is told.
 //!
-//! The grammar (`specs/Code.antt`), the printer and the condition for reading again
-//! (`specs/Printable.antt`) all take the table of forms of `michelson_code`. `specs/*Faults.antt`
-//! read from the left, and say which fault is told. Recursion goes as deep as nodes are nested.
+//! The grammar (`specs/Code.antt`) and the printer take the table of forms of `michelson_code`,
+//! which also says which scripts are read again as they are printed. `specs/*Faults.antt` read from
+//! the left, and say which fault is told. Recursion goes as deep as nodes are nested.
 #![tactic(auto)]
 
 mod code;
@@ -41,6 +41,8 @@ mod words;
 
 pub use data_nodes::{DataFault, DataKind, DataRefusal, print_data, read_data, read_storage};
 pub use fault::ReadFault;
-pub use laws::{a_text_spells_one_script, two_scripts_never_share_a_text};
+pub use laws::{
+    a_text_spells_one_script, the_first_operand_at_fault_is_told, two_scripts_never_share_a_text,
+};
 pub use printer::print_script;
 pub use script::read_script;

@@ -50,7 +50,8 @@ pub(crate) fn read_parameter(alloc: Global, n: &Node) -> Result<Parameter, ReadF
 /// The type of a part of the parameter, with its names behind those so far.
 #[cycle(reading_parameters)]
 fn part(alloc: Global, n: &Node, place: &mut Place) -> Result<Ty, ReadFault>
-    ensures read { IfOk result (λ t. IsPart n.now place.old.way place.old.names t place.new.names) }
+    ensures read { IfOk result (λ t.
+        IsPart n.now place.old.way place.old.names t place.new.names) }
     ensures way { IfOk result (λ t. place.new.way ≡ place.old.way) }
     ensures fault { IfErr result (Refuses (parameter_read n.now)) }
 {
@@ -80,7 +81,8 @@ fn is_or(name: &[u8], args: &[Node]) -> bool
 /// The part to one side of an `or`.
 #[cycle(reading_parameters)]
 fn side(alloc: Global, side: Side, n: &Node, place: &mut Place) -> Result<Ty, ReadFault>
-    ensures read { IfOk result (λ t. IsPart n.now (place.old.way ++ side ∷ []) place.old.names t place.new.names) }
+    ensures read { IfOk result (λ t.
+        IsPart n.now (place.old.way ++ side ∷ []) place.old.names t place.new.names) }
     ensures way { IfOk result (λ t. place.new.way ≡ place.old.way) }
     ensures fault { IfErr result (Refuses (parameter_read n.now)) }
 {
@@ -92,7 +94,8 @@ fn side(alloc: Global, side: Side, n: &Node, place: &mut Place) -> Result<Ty, Re
 
 /// The name of an entry, if there is one, at the node where the way ends.
 fn name_here(alloc: Global, entry: Option<Name>, place: &mut Place) -> Result<(), NoMemory>
-    ensures names { IfOk result (λ u. place.new.names ≡ place.old.names ++ below_way place.old.way (own entry)) }
+    ensures names { IfOk result (λ u.
+        place.new.names ≡ place.old.names ++ below_way place.old.way (own entry)) }
     ensures way { place.new.way ≡ place.old.way }
 {
     if let Some(name) = entry {

@@ -3,7 +3,8 @@
 ghost use Rattle.std.specs.Prelude.{◌≡◌, ◌∷◌, [], IfOk};
 ghost use Rattle.micheline_text.specs.Printed.{printed};
 ghost use Rattle.data_nodes.specs.Nodes.{applied};
-ghost use Rattle.michelson_reader.specs.Printable.{IsPrintableScript};
+ghost use Rattle.michelson_code.specs.Printable.{IsPrintableScript};
+ghost use Rattle.michelson_reader.specs.Lines.{AreThreeLines};
 ghost use Rattle.michelson_reader.specs.Printed.{script_text};
 ghost use Rattle.michelson_reader.specs.Script.{IsScriptOf};
 
@@ -12,7 +13,7 @@ use crate::nodes::{one, word};
 use crate::parameter_nodes::parameter_node;
 use crate::type_nodes::type_node;
 use micheline_text::{NoMemory, Node, print_node};
-use michelson_code::Script;
+use michelson_code::{Script, script_is_lawful};
 use sqlite_items::Items;
 use std::alloc::Global;
 
@@ -21,7 +22,10 @@ pub fn print_script(alloc: Global, s: &Script) -> Result<Vec<u8>, NoMemory>
     ensures text { IfOk result (λ text. text.items ≡ script_text s.now) }
     // Where the script is printable, it is read again as the script.
     ensures again { IfOk result (λ text. IsPrintableScript s.now → IsScriptOf text.items s.now) }
+    // Then it is three lines, of which none is `end`.
+    ensures in_lines { IfOk result (λ text. IsPrintableScript s.now → AreThreeLines text.items) }
 {
+    script_is_lawful(s);
     lines(alloc, s)
 }
 

@@ -61,7 +61,8 @@ fn left_out_in(n: &Node) -> Option<LeftOut<'_>>
 
 #[cycle(searching)]
 fn first_left_out(nodes: &[Node]) -> Option<LeftOut<'_>>
-    ensures { option_map (λ found. (found.at, found.word.now)) result ≡ first_found (map left_out_in nodes.now) }
+    ensures { option_map (λ found. (found.at, found.word.now)) result
+        ≡ first_found (map left_out_in nodes.now) }
 {
     for node in nodes {
         if let Some(found) = left_out_in(node) {

@@ -30,7 +30,8 @@ struct Sections {
 impl Sections {
     /// One more section, which a node is.
     fn add(&mut self, alloc: Global, n: &Node) -> Result<(), ReadFault>
-        ensures { Answers (λ u. shown self.new) (section_body n.now.at (out-Body n.now.body) (shown self.old)) result }
+        ensures { Answers (λ u. shown self.new)
+            (section_body n.now.at (out-Body n.now.body) (shown self.old)) result }
     {
         let at = n.at as usize;
         match &n.body {
@@ -48,7 +49,8 @@ impl Sections {
         name: &[u8],
         args: &[Node],
     ) -> Result<(), ReadFault>
-        ensures { Answers (λ u. shown self.new) (section at name.now args.now (shown self.old)) result }
+        ensures { Answers (λ u. shown self.new)
+            (section at name.now args.now (shown self.old)) result }
     {
         if is_word(name, "parameter") {
             self.add_parameter(alloc, at, args)
@@ -62,7 +64,8 @@ impl Sections {
     }
 
     fn add_parameter(&mut self, alloc: Global, at: usize, args: &[Node]) -> Result<(), ReadFault>
-        ensures { Answers (λ u. shown self.new) (parameter_section at args.now (shown self.old)) result }
+        ensures { Answers (λ u. shown self.new)
+            (parameter_section at args.now (shown self.old)) result }
     {
         let argument = only_argument(at, self.parameter.is_some(), args)?;
         self.parameter = Some(read_parameter(alloc, argument)?);
@@ -70,7 +73,8 @@ impl Sections {
     }
 
     fn add_storage(&mut self, alloc: Global, at: usize, args: &[Node]) -> Result<(), ReadFault>
-        ensures { Answers (λ u. shown self.new) (storage_section at args.now (shown self.old)) result }
+        ensures { Answers (λ u. shown self.new)
+            (storage_section at args.now (shown self.old)) result }
     {
         let argument = only_argument(at, self.storage.is_some(), args)?;
         self.storage = Some(read_type(alloc, argument)?);
@@ -78,7 +82,8 @@ impl Sections {
     }
 
     fn add_code(&mut self, alloc: Global, at: usize, args: &[Node]) -> Result<(), ReadFault>
-        ensures { Answers (λ u. shown self.new) (code_section at args.now (shown self.old)) result }
+        ensures { Answers (λ u. shown self.new)
+            (code_section at args.now (shown self.old)) result }
     {
         let argument = only_argument(at, self.code.is_some(), args)?;
         self.code = Some(read_code(alloc, argument)?);
@@ -87,7 +92,8 @@ impl Sections {
 
     /// The script, if each section stood; what is missing is told at the text's end.
     fn script(self, end: usize) -> Result<Script, ReadFault>
-        ensures { Answers (λ s. s) (all_three end (shown self).parameter (shown self).storage (shown self).code) result }
+        ensures { Answers (λ s. s)
+            (all_three end (shown self).parameter (shown self).storage (shown self).code) result }
     {
         let Sections {
             parameter,

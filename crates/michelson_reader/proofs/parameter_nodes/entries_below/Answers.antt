@@ -2,7 +2,7 @@
 use Rattle.std.proofs.Common.{◌≡◌, List, [], ◌∷◌, ◌++◌, map, sym, ap, ◌∙◌, rules}
 use Rattle.std.proofs.lemmas.List.{map-append}
 use Rattle.michelson_code.specs.declared.script.Side.{Side}
-use Rattle.michelson_reader.specs.Entries.{Entry}
+use Rattle.michelson_code.specs.Entries.{Entry}
 use Rattle.michelson_reader.specs.Printing.{entry_of}
 use Rattle.michelson_reader.proofs.EntryNames.{below-end, below-off, below-on}
 use Rattle.michelson_reader.proofs.parameter_nodes.entries_below.Goals as goal
