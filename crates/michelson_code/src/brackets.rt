@@ -68,7 +68,9 @@ fn instr_within(instr: &Instr, most: u16) -> bool
 /// What stands behind a word.
 #[cycle(code_bracketing)]
 fn operands_within(operands: Operands<'_>, most: u16) -> bool
-    ensures { IsTrue result ↔ (greatest (map operand_brackets (map (operand_map brackets_of) (operands_shown operands.entry))) ≤ most) }
+    ensures { IsTrue result ↔
+        (greatest (map operand_brackets
+            (map (operand_map brackets_of) (operands_shown operands.entry))) ≤ most) }
 {
     match operands {
         Operands::None => true,
@@ -79,7 +81,8 @@ fn operands_within(operands: Operands<'_>, most: u16) -> bool
 
 #[cycle(code_bracketing)]
 fn operand_within(operand: Operand<'_>, most: u16) -> bool
-    ensures { IsTrue result ↔ (operand_brackets (operand_map brackets_of (operand_shown operand.entry)) ≤ most) }
+    ensures { IsTrue result ↔
+        (operand_brackets (operand_map brackets_of (operand_shown operand.entry)) ≤ most) }
 {
     match operand {
         Operand::Number { .. } => true,

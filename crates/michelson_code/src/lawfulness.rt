@@ -69,7 +69,8 @@ fn instr_is_lawful(instr: &Instr)
 
 #[cycle(lawful)]
 fn operands_are_lawful(operands: Operands<'_>)
-    ensures { IsTrue (list_all is_lawful_operand (map (operand_map is_lawful_instr) (operands_shown operands.entry))) }
+    ensures { IsTrue (list_all is_lawful_operand
+        (map (operand_map is_lawful_instr) (operands_shown operands.entry))) }
 {
     match operands {
         Operands::None => {}
@@ -83,7 +84,8 @@ fn operands_are_lawful(operands: Operands<'_>)
 
 #[cycle(lawful)]
 fn operand_is_lawful(operand: Operand<'_>)
-    ensures { IsTrue (is_lawful_operand (operand_map is_lawful_instr (operand_shown operand.entry))) }
+    ensures { IsTrue (is_lawful_operand
+        (operand_map is_lawful_instr (operand_shown operand.entry))) }
 {
     match operand {
         Operand::Data(_, v) => leaves_are_lawful(v),

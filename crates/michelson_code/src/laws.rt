@@ -28,5 +28,6 @@ pub fn codes_one_after_another_add_up()
 
 /// A param in the Lefts and Rights of a way has the type that the way begins at.
 pub fn a_wrapped_param_has_the_type_of_the_whole()
-    ensures { (path : Path) (t s : Ty) (v : Val) → type_at path t ≡ Some s → IsTrue (has_type v s) → IsTrue (has_type (wrapped path v) t) }
+    ensures { (path : Path) (t s : Ty) (v : Val) → type_at path t ≡ Some s →
+        IsTrue (has_type v s) → IsTrue (has_type (wrapped path v) t) }
 {}

@@ -104,7 +104,8 @@ fn instr_is_fit(instr: &Instr) -> bool
 
 #[cycle(fitting)]
 fn operands_are_fit(operands: Operands<'_>) -> bool
-    ensures { result ≡ list_all is_fit_operand (map (operand_map is_fit) (operands_shown operands.entry)) }
+    ensures { result ≡
+        list_all is_fit_operand (map (operand_map is_fit) (operands_shown operands.entry)) }
 {
     match operands {
         Operands::None => true,

@@ -24,7 +24,7 @@ pub enum Side {
 pub struct Script {
     /// What a call gives.
     pub param: Ty,
-    /// The names of entries, in the order of the text, each with its way from the root of the parameter.
+    /// The names of entries, in the order of the text, each with its way from the parameter's root.
     pub names: Items<(Items<Side>, Name)>,
     /// What the contract keeps.
     pub storage: Ty,

@@ -152,7 +152,8 @@ fn with_one<'a>(word: &'static str, cost: u64, operand: Operand<'a>) -> Form<'a>
 }
 
 fn with_two<'a>(word: &'static str, cost: u64, first: Operand<'a>, second: Operand<'a>) -> Form<'a>
-    ensures { shown result ≡ form word.now cost (operand_shown first.entry ∷ operand_shown second.entry ∷ []) }
+    ensures { shown result ≡
+        form word.now cost (operand_shown first.entry ∷ operand_shown second.entry ∷ []) }
 {
     Form {
         word,

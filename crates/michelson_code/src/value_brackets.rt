@@ -61,7 +61,8 @@ fn items_within(items: &[Val], most: u16) -> bool
 #[cycle(nesting)]
 #[tactic(auto, using(crate::proofs::Nestings::nestings))]
 fn entries_within(entries: &[(Val, Val)], most: u16) -> bool
-    ensures { IsTrue result ↔ (greatest (map entry_inside (map nestings_of entries.now)) ≤ most) }
+    ensures { IsTrue result ↔
+        (greatest (map entry_inside (map nestings_of entries.now)) ≤ most) }
 {
     for entry in entries {
         if !argument_within(&entry.0, most) || !argument_within(&entry.1, most) {

@@ -31,7 +31,8 @@ fn weight_of_one(instr: &Instr) -> u64
 
 #[cycle(weighing)]
 fn weight_inside(operands: Operands<'_>) -> u64
-    ensures { result ≡ min (sum_by code_weight (bodies (operands_shown operands.entry))) (2 ^ 64 - 1) }
+    ensures { result ≡
+        min (sum_by code_weight (bodies (operands_shown operands.entry))) (2 ^ 64 - 1) }
 {
     match operands {
         Operands::None => 0,
@@ -42,7 +43,8 @@ fn weight_inside(operands: Operands<'_>) -> u64
 
 #[cycle(weighing)]
 fn weight_behind(operand: Operand<'_>) -> u64
-    ensures { result ≡ min (sum_by code_weight (bodies (operand_shown operand.entry ∷ []))) (2 ^ 64 - 1) }
+    ensures { result ≡
+        min (sum_by code_weight (bodies (operand_shown operand.entry ∷ []))) (2 ^ 64 - 1) }
 {
     match operand {
         Operand::Code(code) => weight(code),
@@ -71,7 +73,8 @@ fn count_of_one(instr: &Instr) -> u64
 
 #[cycle(counting)]
 fn count_inside(operands: Operands<'_>) -> u64
-    ensures { result ≡ min (sum_by code_count (bodies (operands_shown operands.entry))) (2 ^ 64 - 1) }
+    ensures { result ≡
+        min (sum_by code_count (bodies (operands_shown operands.entry))) (2 ^ 64 - 1) }
 {
     match operands {
         Operands::None => 0,
@@ -82,7 +85,8 @@ fn count_inside(operands: Operands<'_>) -> u64
 
 #[cycle(counting)]
 fn count_behind(operand: Operand<'_>) -> u64
-    ensures { result ≡ min (sum_by code_count (bodies (operand_shown operand.entry ∷ []))) (2 ^ 64 - 1) }
+    ensures { result ≡
+        min (sum_by code_count (bodies (operand_shown operand.entry ∷ []))) (2 ^ 64 - 1) }
 {
     match operand {
         Operand::Code(code) => count(code),
