@@ -1,1 +1,3 @@
 mod TokensLemmas
+mod GapLaws
+mod LayoutLaws

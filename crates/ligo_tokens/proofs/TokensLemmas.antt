@@ -4,16 +4,15 @@ use Rattle.std.proofs.lemmas.List.{length-drop, drop-drop}
 use Rattle.std.proofs.Math.Seq.{drop-length}
 use Rattle.std.specs.List.{prefix_len}
 use Rattle.std.specs.Prelude.{slice_index, ◌==◌, codes}
-use Rattle.micheline_text.specs.Kinds.{is_blank, is_digit, is_letter, is_hex}
+use Rattle.micheline_text.specs.Kinds.{is_blank, is_digit, is_hex}
 use Rattle.micheline_text.specs.Lexing.{begins_hex}
 use Rattle.ligo_tokens.specs.declared.token.Says.{Says}
 use Rattle.ligo_tokens.specs.Gaps.{gap_from, gap_end, move_at, after_move, closed, IsLeft, GapWithin, ModeWithin, MoveWithin}
-use Rattle.ligo_tokens.specs.Lexing.{is_lower, is_upper, is_name_byte, is_number_byte, begins_with, name_run, keyword, word_front, lower_at, upper_at, suffix_length, suffix_at, numeral_front, numeral_at, literal_front, bytes_says, bytes_at, quoted, text_says, quoted_at, double_at, single_sign, single_front, sign_front, sign_at, front_by, front, front_of_kind, placed, tokens_from, tokens_of, after_gap}
+use Rattle.ligo_tokens.specs.Lexing.{is_lower, is_upper, is_name_byte, is_number_byte, begins_with, name_run, keyword, word_front, literal_front, bytes_says, quoted, text_says, double_at, single_sign, single_front, sign_front, front, front_of_kind, placed, tokens_from, tokens_of, after_gap}
 use Rattle.ligo_tokens.specs.declared.token.Kind.{Kind}
 use Rattle.ligo_tokens.specs.declared.token.Kind.TheVariants as kind
 use Rattle.ligo_tokens.specs.declared.token.Token.{Token}
 use Rattle.ligo_tokens.specs.declared.lexer.Front.{Front}
-use Rattle.ligo_tokens.specs.declared.numerals.Suffix.{Suffix}
 use Rattle.ligo_tokens.specs.declared.gap.Gap.{Gap}
 use Rattle.ligo_tokens.specs.declared.gap.Gap.TheVariants as gap
 use Rattle.ligo_tokens.specs.declared.gap.Mode.{Mode}
@@ -62,7 +61,7 @@ sign_takes : (k : Option Kind) (a left : ℕ) → 1 ≤ left → 1 ≤ (sign_fro
 sign_takes (Some k) a left h = omega arith
 sign_takes None a left h = single_takes (single_sign a) left h
 
-front_takes : (bytes : List ℕ) → 1 ≤ length bytes → 1 ≤ (front bytes).taken
+pub front_takes : (bytes : List ℕ) → 1 ≤ length bytes → 1 ≤ (front bytes).taken
 front_takes bytes some =
     let b = slice_index bytes 0 in
     chosen (is_lower b) _ _ (λ e. word_takes (keyword (name_run bytes)) (name_run bytes) (run_is is_name_byte bytes some (lower_begins b e)))

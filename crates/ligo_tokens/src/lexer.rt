@@ -1,8 +1,8 @@
 //! The token in front of bytes that begin with no gap, and all tokens of a text.
 
-ghost use Rattle.std.specs.Prelude.{◌≡◌, ◌≤◌, ◌<◌, ◌^◌, ◌∷◌, [], length, drop, take, slice_index, IfOk, IfSome, IsTrue, MatchOption, None};
+ghost use Rattle.std.specs.Prelude.{◌≡◌, ◌≤◌, ◌<◌, ◌^◌, ◌∷◌, [], length, drop, slice_index, IfOk, IfSome, IsTrue, MatchOption, None};
 ghost use Rattle.micheline_text.specs.Lexing.{begins_hex};
-ghost use Rattle.ligo_tokens.specs.Lexing.{bytes_at, double_at, double_sign, front, front_of_kind, is_name_byte, is_number_byte, keyword, literal_front, lower_at, name_front, name_kind, name_run, numeral_at, placed, quoted_at, sign_at, sign_front, single_front, single_sign, tokens_of, upper_at, word_front};
+ghost use Rattle.ligo_tokens.specs.Lexing.{bytes_at, double_at, double_sign, front, front_of_kind, is_name_byte, is_number_byte, keyword, literal_front, lower_at, name_front, name_kind, name_run, numeral_at, quoted_at, sign_at, single_sign, tokens_of, upper_at};
 
 use crate::gap::{Gap, skip};
 use crate::literals::{bytes_says, quoted, text_says};
@@ -79,7 +79,8 @@ fn name_front(alloc: Global, kind: Kind, word: &[u8]) -> Result<Front, NoMemory>
 fn name_run(bytes: &[u8]) -> &[u8]
     ensures run { result.now ≡ name_run bytes.now }
     ensures within { length result.now ≤ length bytes.now }
-    ensures some { (1 ≤ length bytes.now) → IsTrue (is_name_byte (slice_index bytes.now 0)) → 1 ≤ length result.now }
+    ensures some { (1 ≤ length bytes.now) → IsTrue (is_name_byte (slice_index bytes.now 0)) →
+        1 ≤ length result.now }
 {
     bytes.split_at(length_of(Run::Name, bytes)).0
 }
@@ -130,7 +131,8 @@ fn literal_front(
     left: usize,
 ) -> Result<Front, NoMemory>
     ensures front { IfOk result (λ f. f ≡ literal_front kind says taken left) }
-    ensures within { IfOk result (λ f. (1 ≤ taken) → (taken ≤ left) → (1 ≤ left) → (1 ≤ f.taken) × (f.taken ≤ left)) }
+    ensures within { IfOk result (λ f. (1 ≤ taken) → (taken ≤ left) → (1 ≤ left) →
+        (1 ≤ f.taken) × (f.taken ≤ left)) }
 {
     match says {
         Some(says) => Ok(Front {

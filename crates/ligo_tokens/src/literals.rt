@@ -1,6 +1,6 @@
 //! Strings in quotes and byte literals, as Micheline spells them.
 
-ghost use Rattle.std.specs.Prelude.{◌≡◌, ◌≤◌, ◌<◌, ◌*◌, ◌+◌, false, length, drop, IfOk, None};
+ghost use Rattle.std.specs.Prelude.{◌≡◌, ◌≤◌, ◌<◌, ◌*◌, ◌+◌, false, length, IfOk, None};
 ghost use Rattle.std.specs.Option.{option_map};
 ghost use Rattle.micheline_text.specs.Literals.{hex_value, unhex};
 ghost use Rattle.ligo_tokens.specs.Lexing.{bytes_says, part_at, quoted, text_says};

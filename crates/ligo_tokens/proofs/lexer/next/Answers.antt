@@ -1,5 +1,5 @@
 -- The gap and the token in front are the first of the tokens that are left.
-use Rattle.std.proofs.Common.{◌≡◌, ℕ, List, ◌∷◌, length, drop, ◌+◌, ◌-◌, ap, sym, ◌∙◌}
+use Rattle.std.proofs.Common.{◌≡◌, List, ◌∷◌, length, drop, ◌+◌, ◌-◌, ap, sym, ◌∙◌}
 use Rattle.ligo_tokens.specs.Gaps.{gap_from}
 use Rattle.ligo_tokens.specs.Lexing.{front, placed, tokens_of}
 use Rattle.ligo_tokens.specs.declared.token.Token.{Token}
