@@ -8,6 +8,8 @@ pub mod ReadLemmas
 pub mod JoinedTexts
 pub mod TypeLevels
 pub mod TypeNodes
+pub mod TypeCombs
+pub mod TypeDepths
 pub mod TypeLaws
 pub mod UnplacedTypes
 pub mod FormLevels
@@ -40,3 +42,4 @@ pub mod SoundCode
 pub mod SoundParameter
 pub mod SoundScript
 pub mod OperandFaults
+pub mod TypeAnswers

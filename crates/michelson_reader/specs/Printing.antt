@@ -1,5 +1,5 @@
 -- What the nodes that are printed are made of.
-use Rattle.std.specs.Prelude.{ℕ, List, [], ◌∷◌, map}
+use Rattle.std.specs.Prelude.{ℕ, List, [], ◌∷◌, codes, map}
 use Rattle.value_core.specs.declared.ty.Ty.{Ty}
 use Rattle.value_core.specs.declared.ty.Ty.TheOpen.{Ty-F}
 use Rattle.value_core.specs.declared.ty.Ty.TheViews.{out-Ty}
@@ -29,6 +29,10 @@ type_word t = (word_and_parts (out-Ty t)).0
 -- the nodes of the parts
 abbrev pub type_parts : Ty → List Node
 type_parts t = (word_and_parts (map-Ty Ty Node type_node (out-Ty t))).1
+
+-- the node of a pair of two types
+abbrev pub pair_node : Node → Node → Node
+pair_node first second = node (body.Prim (codes "pair") [] (first ∷ second ∷ []))
 
 -- the node of a type with annotations
 abbrev pub annotated : List (List ℕ) → Ty → Node

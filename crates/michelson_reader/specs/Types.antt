@@ -1,5 +1,5 @@
 -- The grammar of types: which nodes are written for which type, one line for each type.
-use Rattle.std.specs.Prelude.{ℕ, Bool, false, ◌&&◌, List, [], ◌∷◌, codes}
+use Rattle.std.specs.Prelude.{ℕ, Bool, false, ◌&&◌, IsTrue, List, [], ◌∷◌, codes}
 use Rattle.std.specs.Str.{bytes_eq}
 use Rattle.value_core.specs.declared.ty.Ty.{Ty}
 use Rattle.value_core.specs.declared.ty.Ty.TheOpen as ty
@@ -10,6 +10,7 @@ use Rattle.micheline_text.specs.declared.node.Body.{Body}
 use Rattle.micheline_text.specs.declared.node.Body.TheOpen as body
 use Rattle.micheline_text.specs.declared.node.Body.TheOpen.{Body-F}
 use Rattle.micheline_text.specs.declared.node.Body.TheViews.{out-Body}
+use Rattle.micheline_text.specs.Text.{IsTextOf}
 use Rattle.data_nodes.specs.Nodes.{Test, are_items, is_applied}
 
 -- the table of types: the word, and the parts behind it
@@ -33,8 +34,10 @@ word_and_parts (ty.BigMap k v) = (codes "big_map", k ∷ v ∷ [])
 word_and_parts (ty.Contract t) = (codes "contract", t ∷ [])
 word_and_parts ty.Operation = (codes "operation", [])
 
+-- one level of a node that is a pair
 abbrev pub is_pair_body : Test → Test → Body-F Body Node → Bool
-is_pair_body first rest (body.Prim name notes args) = bytes_eq name (codes "pair") && are_items (codes "pair") first rest args
+is_pair_body first rest (body.Prim name notes args) =
+    bytes_eq name (codes "pair") && are_items (codes "pair") first rest args
 is_pair_body first rest _ = false
 
 -- `pair a b`, and `pair a b c` for `pair a (pair b c)`
@@ -49,3 +52,7 @@ type_level x = is_applied (word_and_parts x).0 (word_and_parts x).1
 -- the node is written for the type
 abbrev pub is_type : Ty → Test
 is_type = fold-Ty Test type_level
+
+-- the bytes are a text of one node, which is written for the type
+abbrev pub IsTypeText : List ℕ → Ty → Type 0
+IsTypeText bytes t = (n : Node) × IsTextOf bytes (n ∷ []) × IsTrue (is_type t n)

@@ -8,6 +8,7 @@
 //!   `types` a type, `code` an instruction, and `pushed` the data that one pushes.
 //! - `words`, `type_words`, `code_words`, `plain_forms`, `entries`: what a word is written for, and
 //!   what annotations name.
+//! - `type_texts`: `read_type` and `print_type`, for a type by itself.
 //! - `printer`: `print_script`. `nodes`, `type_nodes`, `parameter_nodes` and `code_nodes` build the
 //!   nodes that are printed.
 //! - `fault`: why bytes are no script, and where that is told.
@@ -35,6 +36,9 @@ mod script;
 #[cfg(test)]
 mod tests;
 mod type_nodes;
+#[cfg(test)]
+mod type_tests;
+mod type_texts;
 mod type_words;
 mod types;
 mod words;
@@ -46,3 +50,4 @@ pub use laws::{
 };
 pub use printer::print_script;
 pub use script::read_script;
+pub use type_texts::{print_type, read_type};

@@ -1,8 +1,9 @@
 //! Types to nodes.
 
 ghost use Rattle.std.specs.Prelude.{◌≡◌, [], IfOk};
+ghost use Rattle.value_core.specs.Combs.{comb};
 ghost use Rattle.michelson_reader.specs.Printed.{type_node};
-ghost use Rattle.michelson_reader.specs.Printing.{annotated, type_parts, type_word};
+ghost use Rattle.michelson_reader.specs.Printing.{annotated, pair_node, type_parts, type_word};
 
 use crate::nodes::{one, two, word};
 use micheline_text::{NoMemory, Node};
@@ -10,9 +11,24 @@ use sqlite_items::Items;
 use std::alloc::Global;
 use value_core::Ty;
 
-/// The node of a type.
+/// The node of a type. The second parts of pairs are followed in a loop: a flat `pair` is as deep as
+/// it has parts.
 #[cycle(type_nodes)]
 pub(crate) fn type_node(alloc: Global, t: &Ty) -> Result<Node, NoMemory>
+    ensures { IfOk result (λ n. n ≡ type_node t.now) }
+{
+    let mut firsts = Items::new(alloc);
+    let mut rest = t;
+    while let Ty::Pair(first, second) = rest {
+        firsts.push(type_node(alloc, first.get())?)?;
+        rest = second.get();
+    }
+    let last = node_by_parts(alloc, rest)?;
+    pairs(alloc, firsts, last)
+}
+
+#[cycle(type_nodes)]
+fn node_by_parts(alloc: Global, t: &Ty) -> Result<Node, NoMemory>
     ensures { IfOk result (λ n. n ≡ type_node t.now) }
 {
     word(
@@ -21,6 +37,17 @@ pub(crate) fn type_node(alloc: Global, t: &Ty) -> Result<Node, NoMemory>
         Items::new(alloc),
         type_parts(alloc, t)?,
     )
+}
+
+/// Each first node in a `pair` with all that stands behind it.
+fn pairs(alloc: Global, mut firsts: Items<Node>, last: Node) -> Result<Node, NoMemory>
+    ensures { IfOk result (λ n. n ≡ comb pair_node firsts last) }
+{
+    let mut made = last;
+    while let Some(first) = firsts.pop() {
+        made = word(alloc, b"pair", Items::new(alloc), two(alloc, first, made)?)?;
+    }
+    Ok(made)
 }
 
 /// The node of a type, with these annotations.
