@@ -89,7 +89,8 @@ fn entry_of(
     name: &[u8],
     args: &[Node],
 ) -> Result<(Val, Val), DataRefusal>
-    ensures { Answers (λ e. e) (entry_of at name.now (map reader args.now) (last_key before.now) k.now v.now) result }
+    ensures { Answers (λ e. e)
+        (entry_of at name.now (map reader args.now) (last_key before.now) k.now v.now) result }
 {
     match args {
         [key, item] if is_word(name, "Elt") => {

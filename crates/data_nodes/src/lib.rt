@@ -26,6 +26,8 @@ mod fault;
 mod items;
 mod joining;
 mod laws;
+#[cfg(test)]
+mod limits_tests;
 mod literals;
 mod printer;
 #[cfg(test)]

@@ -19,7 +19,8 @@ use value_core::{Blob, Num, Text, Val, leaves_are_lawful};
 pub fn print_data(alloc: Global, v: &Val) -> Result<Vec<u8>, NoMemory>
     // By the rules of printing.
     ensures text { IfOk result (λ text. text.items ≡ printed (node_of v.now)) }
-    // It is a text of one node, which is data of each type of the value, so it is read again as that.
+    // It is a text of one node, which is data and a storage of each type of the value, so it is
+    // read again as that.
     ensures again { IfOk result (λ text.
         IsTrue (is_printable v.now) → depth_of v.now ≤ 128 → IsReadAgain text.items v.now) }
 {
