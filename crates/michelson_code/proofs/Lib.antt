@@ -3,3 +3,16 @@ pub mod Wrapping
 pub mod Folded
 pub mod Nestings
 pub mod InOrder
+pub mod Types
+pub mod LineLaws
+pub mod OutcomeLaws
+pub mod AppendLaws
+pub mod PrintLaws
+pub mod OperandCounts
+pub mod FaultLaws
+pub mod FaultOnce
+pub mod Throughout
+pub mod ScriptLaws
+pub mod InversionLaws
+pub mod Deciding
+pub mod DecidedLines

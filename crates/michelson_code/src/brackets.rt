@@ -70,7 +70,7 @@ fn instr_within(instr: &Instr, most: u16) -> bool
 fn operands_within(operands: Operands<'_>, most: u16) -> bool
     ensures { IsTrue result ↔
         (greatest (map operand_brackets
-            (map (operand_map brackets_of) (operands_shown operands.entry))) ≤ most) }
+        (map (operand_map brackets_of) (operands_shown operands.entry))) ≤ most) }
 {
     match operands {
         Operands::None => true,
