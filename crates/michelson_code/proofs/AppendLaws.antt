@@ -3,7 +3,7 @@ use Rattle.std.proofs.Common.{◌≡◌, ℕ, List, [], ◌∷◌, ◌++◌, ref
 use Rattle.value_core.specs.declared.ty.Ty.{Ty}
 use Rattle.michelson_code.specs.declared.instr.Instr.{Instr}
 use Rattle.michelson_code.specs.declared.script.Script.{Script}
-use Rattle.michelson_code.specs.Typing.{CodeTyped, InstrTyped, IsKept, Outcome, To, Fails, done, goes_on, fails}
+use Rattle.michelson_code.specs.Typing.{CodeTyped, InstrTyped, IsKept, Outcome, To, done, goes_on, fails}
 
 pub code_append : (s : Script) (n : ℕ) (c d : List Instr) (b t : List Ty) (p : Outcome) → CodeTyped s n c b (To t) → CodeTyped s n d t p → CodeTyped s n (c ++ d) b p
 code_append s n c d b t p (done n' b' kept) more = more

@@ -1,29 +1,25 @@
 -- Whether an instruction without bodies finds its operands, and whether one with bodies may begin, is decided.
-use Rattle.std.proofs.Common.{◌≡◌, ℕ, zero, suc, ◌+◌, ◌<◌, ◌≤◌, Bool, true, false, List, [], ◌∷◌, ◌++◌, length, map, Option, None, Some, inl, inr, refl, ap, sym, subst, ◌∙◌, arith, length-append}
+use Rattle.std.proofs.Common.{◌≡◌, ℕ, zero, suc, ◌<◌, Bool, true, false, List, [], ◌∷◌, ◌++◌, length, map, Option, None, Some, inl, inr, refl, ap, sym, subst, ◌∙◌, arith}
 use Rattle.std.specs.Prelude.{◌⊎◌, IsTrue}
-use Rattle.std.specs.List.{AllByRecursion}
-use Rattle.std.proofs.lemmas.List.{length-map}
 use Rattle.value_core.specs.declared.ty.Ty.{Ty}
 use Rattle.value_core.specs.declared.ty.Ty.TheVariants as type
 use Rattle.value_core.specs.declared.ty.Ty.TheOpen as ty
 use Rattle.value_core.specs.declared.ty.Ty.TheOpen.{Ty-F}
 use Rattle.value_core.specs.declared.ty.Ty.TheViews.{out-Ty, roll-Ty}
 use Rattle.value_core.specs.TypeLevels.{roll-out}
-use Rattle.value_core.specs.Kinds.{is_comparable, is_passable}
-use Rattle.michelson_code.specs.declared.instr.Instr.{Instr}
+use Rattle.value_core.specs.Kinds.{is_comparable}
 use Rattle.michelson_code.specs.declared.instr.Instr.TheOpen as one
 use Rattle.michelson_code.specs.declared.instr.Instr.TheOpen.{Instr-F}
-use Rattle.michelson_code.specs.declared.operands.Level.{Level}
 use Rattle.michelson_code.specs.declared.operands.Level.TheVariants as level
 use Rattle.michelson_code.specs.declared.operands.Line.{Line}
 use Rattle.michelson_code.specs.declared.operands.Slot.{Slot}
 use Rattle.michelson_code.specs.declared.script.Script.{Script}
-use Rattle.michelson_code.specs.FirstFault.{IsLone, IsShort, for_each_line, lone, without_line, items_taken}
+use Rattle.michelson_code.specs.FirstFault.{IsShort, without_line}
 use Rattle.michelson_code.specs.Operands.{lines}
-use Rattle.michelson_code.specs.Typing.{Applies, Choice, IsOneOf, Outcome, To, Fails, Runs, Start, comb_type, given_types, level_type, slot_list, slot_type, slot_types, by_line, drop_n, dup_n, dig, dug, pair_n, unpair_n, alike, first_fails, second_fails, with_it, failing, dip, dip_n, if_true, if_none, if_left, if_cons, loop, loop_left, iter_list, iter_set, iter_map, map_list, map_map, failwith}
-use Rattle.michelson_code.proofs.Deciding.{Chosen, Decided, Front, NoneChosen, front_decided, same_stack, same_type}
-use Rattle.michelson_code.proofs.OperandCounts.{bare_short, enough_applies}
-use Rattle.michelson_code.proofs.Types.{level_shown, one_kind, option_part, or_parts, pair_parts, shows}
+use Rattle.michelson_code.specs.Typing.{Applies, Choice, IsOneOf, comb_type, given_types, slot_list, slot_type, slot_types, by_line, drop_n, dup_n, dig, dug, pair_n, unpair_n}
+use Rattle.michelson_code.proofs.Deciding.{Chosen, Decided, Front, NoneChosen, front_decided}
+use Rattle.michelson_code.proofs.OperandCounts.{enough_applies}
+use Rattle.michelson_code.proofs.Types.{pair_parts, shows}
 
 -- ---- operands on a stack
 

@@ -1,5 +1,5 @@
 -- Whether two types are equal, and whether a stack begins with the operands of a line, is decided.
-use Rattle.std.proofs.Common.{◌≡◌, ◌↔◌, ℕ, Bool, true, false, List, [], ◌∷◌, ◌++◌, map, get_or, Option, None, Some, unwrap_or, inl, inr, refl, ap, sym, subst, ◌∙◌}
+use Rattle.std.proofs.Common.{◌≡◌, ℕ, Bool, true, false, List, [], ◌∷◌, get_or, Option, None, Some, unwrap_or, inl, inr, refl, ap, sym, subst, ◌∙◌}
 use Rattle.std.specs.Prelude.{◌==◌, ◌⊎◌, IsTrue}
 use Rattle.std.proofs.lemmas.Bool.{eq-eqb}
 use Rattle.value_core.specs.declared.ty.Ty.{Ty}
@@ -16,7 +16,7 @@ use Rattle.michelson_code.specs.declared.operands.Part.TheVariants as part
 use Rattle.michelson_code.specs.declared.operands.Slot.{Slot}
 use Rattle.michelson_code.specs.declared.operands.Slot.TheVariants as slot
 use Rattle.michelson_code.specs.Typing.{Choice, level_type, part_type, slot_type}
-use Rattle.michelson_code.proofs.Types.{kind_shown, level_kind, level_shown, shows}
+use Rattle.michelson_code.proofs.Types.{kind_shown, level_shown, shows}
 
 -- it holds, or it doesn't
 abbrev pub Decided : Type 0 → Type 0

@@ -1,23 +1,21 @@
 -- A script that is typed has no fault.
-use Rattle.std.proofs.Common.{◌≡◌, ℕ, ◌+◌, ◌<◌, Bool, true, false, List, [], ◌∷◌, ◌++◌, length, inl, inr, refl, ap, sym, subst, ◌∙◌, arith}
-use Rattle.std.specs.Prelude.{◌&&◌}
+use Rattle.std.proofs.Common.{◌≡◌, ℕ, ◌+◌, Bool, true, false, List, [], ◌∷◌, inl, inr, refl, ap, sym, subst, arith}
 use Rattle.std.specs.List.{list_all}
 use Rattle.std.proofs.lemmas.Bool.{and_from, and_parts}
 use Rattle.value_core.specs.declared.ty.Ty.{Ty}
 use Rattle.michelson_code.specs.declared.instr.Instr.{Instr}
-use Rattle.michelson_code.specs.declared.instr.Instr.TheOpen as one
 use Rattle.michelson_code.specs.declared.instr.Instr.TheOpen.{Instr-F}
 use Rattle.michelson_code.specs.declared.instr.Instr.TheViews.{out-Instr}
 use Rattle.michelson_code.specs.declared.script.Script.{Script}
 use Rattle.michelson_code.specs.declared.type_fault.TypeKind.{TypeKind}
 use Rattle.michelson_code.specs.declared.type_fault.TypeKind.TheVariants as kind
-use Rattle.michelson_code.specs.FirstFault.{BodiesEnd, BodiesFault, Breaks, CodeFault, Differ, FailsEarly, FailsInside, FitsNoLine, HasTooLarge, InstrFault, IsFirst, IsShort, IsStart, IsTooTall, Makes, MakesOne, StartsKept, in_dip, in_dip_n, in_map, leaves, begins, ends_on, its_own, inside, this_body, later_body, at_instr, behind_failing, types_of}
+use Rattle.michelson_code.specs.FirstFault.{BodiesEnd, BodiesFault, Breaks, CodeFault, FailsInside, HasTooLarge, InstrFault, IsStart, IsTooTall, Makes, StartsKept, in_dip, in_dip_n, in_map, leaves, begins, ends_on, its_own, inside, this_body, later_body, at_instr, behind_failing, types_of}
 use Rattle.michelson_code.specs.Forms.{bodies_of, form_at}
-use Rattle.michelson_code.specs.Typing.{Applies, BodiesTyped, CodeTyped, InstrTyped, IsKept, Outcome, To, Fails, Runs, Start, is_fit_alone, types_written, applies, runs, no_body, one_body, done, goes_on, fails, dip, dip_n, if_true, if_none, if_left, if_cons, loop, loop_left, iter_list, iter_set, iter_map, map_list, map_map, failwith}
+use Rattle.michelson_code.specs.Typing.{BodiesTyped, CodeTyped, InstrTyped, IsKept, Outcome, To, Fails, Runs, Start, types_written, applies, runs, no_body, one_body, goes_on, fails, dip, dip_n, if_true, if_none, if_left, if_cons, loop, loop_left, iter_list, iter_set, iter_map, map_list, map_map, failwith}
 use Rattle.michelson_code.specs.WrittenTypes.{has_comparable_keys, has_passable_values, is_well_made, is_within_limits}
 use Rattle.michelson_code.proofs.AppendLaws.{code_parts, start_kept}
 use Rattle.michelson_code.proofs.OperandCounts.{enough_applies, enough_runs}
-use Rattle.michelson_code.proofs.OutcomeLaws.{bodies_once, code_once, instr_once, left_by, lines_or_bodies, one_after, same_end, same_starts}
+use Rattle.michelson_code.proofs.OutcomeLaws.{bodies_once, code_once, left_by, lines_or_bodies, one_after, same_end, same_starts}
 
 -- what an instruction leaves is kept
 abbrev pub EndKept : ℕ → Outcome → Type 0

@@ -1,6 +1,5 @@
 -- Two faults of a code are one: of one place and one kind.
 use Rattle.std.proofs.Common.{◌≡◌, ℕ, zero, suc, ◌+◌, ◌<◌, true, List, [], ◌∷◌, ◌++◌, length, get_or, inl, inr, refl, ap, sym, subst, ◌∙◌, arith}
-use Rattle.std.specs.Prelude.{◌⊎◌}
 use Rattle.value_core.specs.declared.ty.Ty.{Ty}
 use Rattle.michelson_code.specs.declared.instr.Instr.{Instr}
 use Rattle.michelson_code.specs.declared.instr.Instr.TheViews.{out-Instr}

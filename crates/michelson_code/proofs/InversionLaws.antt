@@ -1,5 +1,5 @@
 -- What a typed instruction finds, by its form.
-use Rattle.std.proofs.Common.{◌≡◌, ℕ, ◌+◌, suc, List, [], ◌∷◌, ◌++◌, inl, inr, refl, sym, subst, add-zero}
+use Rattle.std.proofs.Common.{◌≡◌, ℕ, ◌+◌, List, ◌∷◌, ◌++◌, inl, inr, refl, subst, add-zero}
 use Rattle.value_core.specs.declared.ty.Ty.{Ty}
 use Rattle.value_core.specs.declared.ty.Ty.TheVariants as type
 use Rattle.value_core.specs.Kinds.{is_comparable}
@@ -13,7 +13,7 @@ use Rattle.michelson_code.specs.declared.script.Script.{Script}
 use Rattle.michelson_code.specs.Forms.{bodies, form_at}
 use Rattle.michelson_code.specs.Inversion.{Finds, FindsLine}
 use Rattle.michelson_code.specs.Operands.{lines}
-use Rattle.michelson_code.specs.Typing.{Applies, BodiesTyped, Choice, CodeTyped, InstrTyped, IsOneOf, Outcome, To, Runs, Start, given_types, slot_types, by_line, drop_n, dup_n, dig, dug, pair_n, unpair_n, dip, dip_n, if_true, if_none, if_left, if_cons, loop, loop_left, iter_list, iter_set, iter_map, map_list, map_map, failwith, applies, runs, no_body, one_body}
+use Rattle.michelson_code.specs.Typing.{Applies, BodiesTyped, Choice, CodeTyped, InstrTyped, IsOneOf, Outcome, To, Runs, Start, given_types, slot_types, by_line, drop_n, dup_n, dig, dug, pair_n, unpair_n, dip, dip_n, if_true, if_none, if_left, if_cons, loop, loop_left, iter_list, iter_set, iter_map, map_list, map_map, failwith, applies, runs, one_body}
 
 module _ (s : Script) (n : ℕ) where
   line_found : (x : Instr-F Instr) (l : Line) (c : Choice) (below : List Ty) → IsOneOf l (lines x) → given_types s x ≡ Some c.written →

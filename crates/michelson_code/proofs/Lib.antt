@@ -16,3 +16,4 @@ pub mod ScriptLaws
 pub mod InversionLaws
 pub mod Deciding
 pub mod DecidedLines
+pub mod CounterTyped

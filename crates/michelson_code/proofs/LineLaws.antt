@@ -1,6 +1,6 @@
 -- The lines of operands: on one stack an instruction has at most one line, and its operands determine its results.
-use Rattle.std.proofs.Common.{◌≡◌, ℕ, Bool, true, false, List, [], ◌∷◌, ◌++◌, map, get_or, Option, None, Some, inl, inr, refl, ap, sym, subst, ◌∙◌}
-use Rattle.std.specs.Prelude.{◌&&◌, ◌||◌, ◌==◌, not, ◌⊎◌}
+use Rattle.std.proofs.Common.{◌≡◌, ℕ, Bool, true, false, List, [], ◌∷◌, ◌++◌, map, get_or, Some, inl, inr, refl, ap, sym, subst, ◌∙◌}
+use Rattle.std.specs.Prelude.{◌&&◌, ◌||◌, ◌==◌, not}
 use Rattle.std.specs.List.{list_all, list_any, AllByRecursion}
 use Rattle.std.proofs.lemmas.Bool.{and_parts, eq-eqb, eqb-true, or_cases}
 use Rattle.value_core.specs.declared.ty.Ty.{Ty}
@@ -18,7 +18,7 @@ use Rattle.michelson_code.specs.declared.operands.Slot.TheVariants as slot
 use Rattle.michelson_code.specs.Operands.{lines}
 use Rattle.michelson_code.specs.declared.script.Script.{Script}
 use Rattle.michelson_code.specs.Typing.{Choice, IsOneOf, given_types, level_type, part_type, slot_list, slot_type, slot_types}
-use Rattle.michelson_code.proofs.Types.{level_kind, level_shown, one_kind, option_part, shown_alike}
+use Rattle.michelson_code.proofs.Types.{level_kind, one_kind, option_part, shown_alike}
 
 -- ---- the parts of a line
 

@@ -1,14 +1,13 @@
 -- A code has at most one outcome on a stack.
-use Rattle.std.proofs.Common.{◌≡◌, ℕ, ◌+◌, suc, List, [], ◌∷◌, ◌++◌, length, Some, inl, inr, refl, ap, sym, subst, ◌∙◌}
+use Rattle.std.proofs.Common.{◌≡◌, ℕ, ◌+◌, List, [], ◌∷◌, ◌++◌, length, refl, ap, sym, subst, ◌∙◌}
 use Rattle.value_core.specs.declared.ty.Ty.{Ty}
 use Rattle.value_core.specs.declared.ty.Ty.TheVariants as type
 use Rattle.michelson_code.specs.declared.instr.Instr.{Instr}
-use Rattle.michelson_code.specs.declared.instr.Instr.TheOpen as one
 use Rattle.michelson_code.specs.declared.instr.Instr.TheOpen.{Instr-F}
 use Rattle.michelson_code.specs.declared.instr.Instr.TheViews.{out-Instr}
 use Rattle.michelson_code.specs.declared.script.Script.{Script}
 use Rattle.michelson_code.specs.Forms.{bodies_of}
-use Rattle.michelson_code.specs.Typing.{Applies, BodiesTyped, Choice, CodeTyped, EndsWith, InstrTyped, IsOneOf, Joined, Outcome, Runs, Start, To, Fails, comb_type, by_line, drop_n, dup_n, dig, dug, pair_n, unpair_n, alike, first_fails, second_fails, with_it, failing, dip, dip_n, if_true, if_none, if_left, if_cons, loop, loop_left, iter_list, iter_set, iter_map, map_list, map_map, failwith, applies, runs, no_body, one_body, done, goes_on, fails}
+use Rattle.michelson_code.specs.Typing.{Applies, BodiesTyped, CodeTyped, InstrTyped, Joined, Outcome, Runs, Start, To, Fails, comb_type, by_line, drop_n, dup_n, dig, dug, pair_n, unpair_n, alike, first_fails, second_fails, dip, dip_n, if_true, if_none, if_left, if_cons, loop, loop_left, iter_list, iter_set, iter_map, map_list, map_map, failwith, applies, runs, no_body, one_body, done, goes_on, fails}
 use Rattle.michelson_code.proofs.LineLaws.{one_result}
 use Rattle.michelson_code.proofs.Types.{list_is_no_map, list_is_no_set, list_part, map_parts, option_part, or_parts, pair_parts, set_is_no_map, set_part}
 

@@ -8,11 +8,11 @@ use Rattle.michelson_code.specs.declared.instr.Instr.{Instr}
 use Rattle.michelson_code.specs.declared.instr.Instr.TheOpen as one
 use Rattle.michelson_code.specs.declared.instr.Instr.TheOpen.{Instr-F}
 use Rattle.michelson_code.specs.declared.instr.Instr.TheViews.{out-Instr}
-use Rattle.michelson_code.specs.declared.instr.Instr.TheFolds.{fold_out-Instr, map-Instr}
+use Rattle.michelson_code.specs.declared.instr.Instr.TheFolds.{fold_out-Instr}
 use Rattle.michelson_code.specs.declared.operands.Line.{Line}
 use Rattle.michelson_code.specs.declared.script.Script.{Script}
 use Rattle.michelson_code.specs.Forms.{Form, Operand, ANumber, AType, SomeData, ACode, bodies, bodies_of, form_at, form_of}
-use Rattle.michelson_code.specs.Levels.{fold_form, form_at-map, form_map, operand_map}
+use Rattle.michelson_code.specs.Levels.{fold_form, form_at-map, operand_map}
 use Rattle.michelson_code.specs.Operands.{lines}
 use Rattle.michelson_code.specs.Printable.{IsPrintableScript, fit_at, is_fit, is_fit_operand}
 use Rattle.michelson_code.specs.TypedScript.{IsTypedScript}

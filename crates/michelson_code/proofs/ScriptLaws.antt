@@ -1,6 +1,5 @@
 -- A script that is typed has no fault: of the whole, of its code, or at its end.
-use Rattle.std.proofs.Common.{◌≡◌, ℕ, ◌<◌, ◌≤◌, Bool, true, false, List, [], ◌∷◌, inl, inr, refl, ap, sym, subst, ◌∙◌, arith}
-use Rattle.std.specs.List.{list_all}
+use Rattle.std.proofs.Common.{◌≡◌, ℕ, ◌<◌, ◌≤◌, Bool, true, false, List, inl, inr, refl, subst, arith}
 use Rattle.std.proofs.lemmas.Bool.{and_from}
 use Rattle.michelson_code.specs.declared.script.Script.{Script}
 use Rattle.michelson_code.specs.declared.type_fault.TypeKind.{TypeKind}
@@ -8,7 +7,7 @@ use Rattle.michelson_code.specs.declared.type_fault.TypeKind.TheVariants as kind
 use Rattle.michelson_code.specs.Brackets.{script_brackets}
 use Rattle.michelson_code.specs.FirstFault.{ScriptFault, WholeBreaks, of_the_code, of_the_end, of_the_whole}
 use Rattle.michelson_code.specs.TypedScript.{IsTypedScript, first_stack, last_stack}
-use Rattle.michelson_code.specs.Typing.{CodeTyped, EndsWith, Outcome}
+use Rattle.michelson_code.specs.Typing.{EndsWith}
 use Rattle.michelson_code.specs.Weight.{code_count}
 use Rattle.michelson_code.proofs.AppendLaws.{start_kept}
 use Rattle.michelson_code.proofs.FaultLaws.{code_none}

@@ -1,5 +1,5 @@
 -- Tests of each level of a type, at one level; and what passable types pass.
-use Rattle.std.proofs.Common.{◌≡◌, Bool, true, false, List, [], ◌∷◌, refl, ap, sym, subst, ◌∙◌}
+use Rattle.std.proofs.Common.{◌≡◌, Bool, true, false, List, [], ◌∷◌, refl, ap, sym, ◌∙◌}
 use Rattle.std.specs.Prelude.{◌&&◌}
 use Rattle.std.proofs.lemmas.Bool.{and_from, and_parts}
 use Rattle.value_core.specs.declared.ty.Ty.{Ty}
@@ -12,7 +12,7 @@ use Rattle.value_core.specs.TypeLevels.{Each, induction, roll-out, types_in}
 use Rattle.michelson_code.specs.WrittenTypes.{Judged, bare, is_free_of_big_maps, is_kept, is_kept_here, is_no_big_map_type, judged_level, parts_pass, passes_throughout}
 
 module _ (test : Ty-F Ty → Bool) where
-  abbrev judged : Ty → Judged
+  abbrev pub judged : Ty → Judged
   judged = fold-Ty Judged (judged_level test)
 
   abbrev IsItself : Ty → Type 0
@@ -46,6 +46,11 @@ module _ (test : Ty-F Ty → Bool) where
   throughout-level t =
       ap (λ (p : Judged). p.1) (judged-out t)
       ∙ ap (λ (x : Ty-F Ty). test x && parts_pass (map-Ty Ty Judged judged (out-Ty t))) (same_parts (out-Ty t) (each_itself (types_in (out-Ty t))))
+
+module _ (test : Ty-F Ty → Bool) where
+  -- a type without parts passes where its level does
+  pub passes_at : (t : Ty) (x : Ty-F Ty) → out-Ty t ≡ x → (test x && parts_pass (map-Ty Ty Judged (judged test) x)) ≡ true → passes_throughout test t ≡ true
+  passes_at t x is h = throughout-level test t ∙ ap (λ (y : Ty-F Ty). test y && parts_pass (map-Ty Ty Judged (judged test) y)) is ∙ h
 
 -- ---- passable types
 

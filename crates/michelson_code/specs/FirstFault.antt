@@ -1,5 +1,5 @@
 -- The first fault of a script that isn't typed, by typing alone: the place before which all is typed, and the first kind that holds there.
-use Rattle.std.specs.Prelude.{◌≡◌, ℕ, ◌+◌, ◌<◌, suc, Bool, true, false, ◌&&◌, List, [], ◌∷◌, ◌++◌, length, ◌⊎◌, AllPairs}
+use Rattle.std.specs.Prelude.{◌≡◌, ℕ, ◌+◌, ◌<◌, suc, true, false, ◌&&◌, List, [], ◌∷◌, ◌++◌, length, ◌⊎◌, AllPairs}
 use Rattle.std.specs.List.{list_all, AllByRecursion}
 use Rattle.value_core.specs.declared.ty.Ty.{Ty}
 use Rattle.value_core.specs.declared.ty.Ty.TheVariants as type

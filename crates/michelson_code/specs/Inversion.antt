@@ -1,5 +1,5 @@
 -- What a typed instruction finds on the stack, how its bodies are typed, and what it leaves, by its form.
-use Rattle.std.specs.Prelude.{◌≡◌, ℕ, ◌+◌, suc, IsTrue, List, [], ◌∷◌, ◌++◌, length, ◌⊎◌, Some}
+use Rattle.std.specs.Prelude.{◌≡◌, ℕ, ◌+◌, suc, IsTrue, List, ◌∷◌, ◌++◌, length, ◌⊎◌, Some}
 use Rattle.value_core.specs.declared.ty.Ty.{Ty}
 use Rattle.value_core.specs.declared.ty.Ty.TheVariants as type
 use Rattle.value_core.specs.Kinds.{is_comparable, is_passable}

@@ -1,8 +1,9 @@
 -- Which scripts are typed: one line for each rule of docs/MICHELSON.md on a script as a whole.
-use Rattle.std.specs.Prelude.{ℕ, ◌≤◌, ◌⊎◌, ◌≡◌, ◌≢◌, Bool, IsTrue, List, [], ◌∷◌, AllPairs}
+use Rattle.std.specs.Prelude.{◌≤◌, ◌≢◌, IsTrue, List, [], ◌∷◌, AllPairs}
 use Rattle.value_core.specs.declared.ty.Ty.{Ty}
 use Rattle.value_core.specs.declared.ty.Ty.TheVariants as type
 use Rattle.value_core.specs.Kinds.{is_passable}
+use Rattle.michelson_code.specs.declared.instr.Instr.TheVariants as instr
 use Rattle.michelson_code.specs.declared.script.Script.{Script}
 use Rattle.michelson_code.specs.Brackets.{script_brackets}
 use Rattle.michelson_code.specs.Entries.{Entry}
@@ -43,3 +44,12 @@ pub record IsTypedScript (s : Script) : Type 0 where
   pub brackets : script_brackets s ≤ 256
   -- the code goes from the one stack to the other, or fails
   pub ends : (o : Outcome) × (CodeTyped s 0 s.code (first_stack s) o × EndsWith (last_stack s) o)
+
+-- a counter: `parameter int ; storage int ; code { UNPAIR ; ADD ; NIL operation ; PAIR }`, which is typed
+abbrev pub counter : Script
+counter = record {
+  param = type.Int;
+  names = [];
+  storage = type.Int;
+  code = instr.Unpair ∷ instr.Add ∷ instr.Nil type.Operation ∷ instr.Pair ∷ [];
+}

@@ -1,5 +1,5 @@
 -- Typing: which code goes from which stack to which, and which fails on each way. No line knows an order of checking.
-use Rattle.std.specs.Prelude.{◌≡◌, ℕ, ◌+◌, ◌≤◌, Bool, true, ◌&&◌, IsTrue, List, [], ◌∷◌, ◌++◌, length, get_or, codes, suc, map, Option, None, Some, ◌⊎◌}
+use Rattle.std.specs.Prelude.{◌≡◌, ℕ, ◌+◌, ◌≤◌, Bool, true, IsTrue, List, [], ◌∷◌, ◌++◌, length, get_or, codes, suc, map, Option, None, Some, ◌⊎◌}
 use Rattle.std.specs.List.{list_all}
 use Rattle.std.specs.Option.{option_map}
 use Rattle.value_core.specs.declared.ty.Ty.{Ty}
@@ -21,7 +21,7 @@ use Rattle.michelson_code.specs.declared.operands.Slots.{Slots}
 use Rattle.michelson_code.specs.declared.operands.Slots.TheVariants as slots
 use Rattle.michelson_code.specs.declared.script.Script.{Script}
 use Rattle.michelson_code.specs.Entries.{entry_type}
-use Rattle.michelson_code.specs.Forms.{Operand, ANumber, AType, SomeData, ACode, bodies_of, form_at}
+use Rattle.michelson_code.specs.Forms.{Operand, AType, bodies_of, form_at}
 use Rattle.michelson_code.specs.Operands.{lines}
 use Rattle.michelson_code.specs.Printable.{fit_at}
 use Rattle.michelson_code.specs.WrittenTypes.{is_well_made, is_within_limits}

@@ -1,6 +1,5 @@
 -- Types as they are written: keys, big maps, and how large a type may be.
-use Rattle.std.specs.Prelude.{ℕ, Bool, true, false, ◌&&◌, nat_le, length, List, [], ◌∷◌}
-use Rattle.std.specs.List.{list_all}
+use Rattle.std.specs.Prelude.{Bool, true, false, ◌&&◌, nat_le, length}
 use Rattle.value_core.specs.declared.ty.Ty.{Ty}
 use Rattle.value_core.specs.declared.ty.Ty.TheOpen as ty
 use Rattle.value_core.specs.declared.ty.Ty.TheOpen.{Ty-F}

@@ -66,7 +66,7 @@ pub use typed::Typed;
 pub use typing_laws::{
     a_code_has_one_outcome, a_script_has_one_fault, a_typed_instruction_finds_its_operands,
     a_typed_script_has_no_fault, a_typed_script_is_read_again, an_instruction_leaves_one_stack,
-    operands_are_found_or_not, what_follows_a_code_begins_where_it_ends,
+    operands_are_found_or_not, the_counter_is_typed, what_follows_a_code_begins_where_it_ends,
 };
 pub use weighing::{count, weight};
 pub use why::Why;

@@ -9,7 +9,7 @@ ghost use Rattle.michelson_code.specs.declared.type_fault.TypeKind.{TypeKind};
 ghost use Rattle.michelson_code.specs.FirstFault.{ScriptFault};
 ghost use Rattle.michelson_code.specs.Inversion.{Finds};
 ghost use Rattle.michelson_code.specs.Printable.{IsPrintableScript};
-ghost use Rattle.michelson_code.specs.TypedScript.{IsTypedScript};
+ghost use Rattle.michelson_code.specs.TypedScript.{IsTypedScript, counter};
 ghost use Rattle.michelson_code.specs.Typing.{Applies, CodeTyped, InstrTyped, Outcome, To};
 
 /// On a stack, an instruction without bodies leaves one stack at most.
@@ -59,4 +59,9 @@ pub fn a_typed_instruction_finds_its_operands()
 pub fn operands_are_found_or_not()
     ensures { (s : Script) (i : Instr) (b : List Ty) →
         ((t : List Ty) × Applies s (out-Instr i) b t) ⊎ (((t : List Ty) × Applies s (out-Instr i) b t) → ⊥) }
+{}
+
+/// The counter is typed.
+pub fn the_counter_is_typed()
+    ensures { IsTypedScript counter }
 {}
