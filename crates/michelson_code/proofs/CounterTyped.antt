@@ -29,7 +29,7 @@ use Rattle.michelson_code.specs.Inside.{count_of-is}
 use Rattle.michelson_code.specs.Operands.{a, b, int, list, pair, ◌⇒◌}
 use Rattle.michelson_code.specs.Printable.{fit_at}
 use Rattle.michelson_code.specs.TypedScript.{IsTypedScript, counter, first_stack, last_stack}
-use Rattle.michelson_code.specs.Typing.{Applies, Choice, CodeTyped, InstrTyped, IsKept, To, types_written, by_line, applies, done, goes_on, with_it}
+use Rattle.michelson_code.specs.Typing.{Applies, Choice, CodeTyped, InstrTyped, IsKept, To, whole_types, by_line, applies, done, goes_on, with_it}
 use Rattle.michelson_code.specs.Weight.{code_count, count_of}
 use Rattle.michelson_code.specs.WrittenTypes.{Placed, has_comparable_keys, has_passable_values, has_storage_big_maps, is_kept_here, is_well_made, is_within_limits, keys_here, placed_level, values_here}
 use Rattle.michelson_code.proofs.Throughout.{passes_at}
@@ -147,11 +147,11 @@ abbrev choice : Ty → Ty → List Ty → Choice
 choice s u written = record { a = s; b = u; k = type.Int; written = written }
 
 step : (i : Instr) (x : Instr-F Instr) → out-Instr i ≡ x → fit_at (map-Instr Instr Bool (λ j. true) x) ≡ true →
-    list_all is_well_made (types_written (form_at x).operands) ≡ true → (before after : List Ty) → Applies counter x before after →
+    list_all is_well_made (whole_types x) ≡ true → (before after : List Ty) → Applies counter x before after →
     InstrTyped counter 0 i before (To after)
 step i x is fit well before after how =
     applies 0 i before after (ap (λ (y : Instr-F Instr). fit_at (map-Instr Instr Bool (λ j. true) y)) is ∙ fit)
-    (ap (λ (y : Instr-F Instr). list_all is_well_made (types_written (form_at y).operands)) is ∙ well)
+    (ap (λ (y : Instr-F Instr). list_all is_well_made (whole_types y)) is ∙ well)
     (subst (λ (y : Instr-F Instr). Applies counter y before after) (sym is) how)
 
 code_typed : CodeTyped counter 0 counter.code (first_stack counter) (To (last_stack counter))

@@ -10,8 +10,8 @@ use Rattle.michelson_code.specs.declared.script.Script.{Script}
 use Rattle.michelson_code.specs.declared.type_fault.TypeKind.{TypeKind}
 use Rattle.michelson_code.specs.declared.type_fault.TypeKind.TheVariants as kind
 use Rattle.michelson_code.specs.FirstFault.{BodiesEnd, BodiesFault, Breaks, CodeFault, FailsInside, HasTooLarge, InstrFault, IsStart, IsTooTall, Makes, StartsKept, in_dip, in_dip_n, in_map, leaves, begins, ends_on, its_own, inside, this_body, later_body, at_instr, behind_failing, types_of}
-use Rattle.michelson_code.specs.Forms.{bodies_of, form_at}
-use Rattle.michelson_code.specs.Typing.{BodiesTyped, CodeTyped, InstrTyped, IsKept, Outcome, To, Fails, Runs, Start, types_written, applies, runs, no_body, one_body, goes_on, fails, dip, dip_n, if_true, if_none, if_left, if_cons, loop, loop_left, iter_list, iter_set, iter_map, map_list, map_map, failwith}
+use Rattle.michelson_code.specs.Forms.{bodies_of}
+use Rattle.michelson_code.specs.Typing.{BodiesTyped, CodeTyped, InstrTyped, IsKept, Outcome, To, Fails, Runs, Start, whole_types, applies, runs, no_body, one_body, goes_on, fails, dip, dip_n, if_true, if_none, if_left, if_cons, loop, loop_left, iter_list, iter_set, iter_map, map_list, map_map, failwith}
 use Rattle.michelson_code.specs.WrittenTypes.{has_comparable_keys, has_passable_values, is_well_made, is_within_limits}
 use Rattle.michelson_code.proofs.AppendLaws.{code_parts, start_kept}
 use Rattle.michelson_code.proofs.OperandCounts.{enough_applies, enough_runs}
@@ -83,7 +83,7 @@ failing_end : (t : List Ty) → To t ∷ [] ≡ Fails ∷ [] → ⊥
 failing_end t same = cc
 
 module _ {A : Type 0} where
-  pub writes_none : (x : Instr-F A) (b : List Ty) (st : List Start) (es : List Outcome) (o : Outcome) → Runs x b st es o → types_written (form_at x).operands ≡ []
+  pub writes_none : (x : Instr-F A) (b : List Ty) (st : List Start) (es : List Outcome) (o : Outcome) → Runs x b st es o → whole_types x ≡ []
   writes_none x b st es o (dip c a u v) = refl
   writes_none x b st es o (dip_n n c items u v long) = refl
   writes_none x b st es o (if_true c d u e f p j) = refl

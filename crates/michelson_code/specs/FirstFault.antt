@@ -12,11 +12,11 @@ use Rattle.michelson_code.specs.declared.script.Script.{Script}
 use Rattle.michelson_code.specs.declared.type_fault.TypeKind.{TypeKind}
 use Rattle.michelson_code.specs.declared.type_fault.TypeKind.TheVariants as kind
 use Rattle.michelson_code.specs.Brackets.{script_brackets}
-use Rattle.michelson_code.specs.Forms.{bodies_of, form_of}
+use Rattle.michelson_code.specs.Forms.{bodies_of}
 use Rattle.michelson_code.specs.Operands.{lines}
 use Rattle.michelson_code.specs.Printable.{are_entries_of}
 use Rattle.michelson_code.specs.TypedScript.{AreNamedApart, first_stack, last_stack}
-use Rattle.michelson_code.specs.Typing.{Applies, BodiesTyped, CodeTyped, EndsWith, IsKept, IsOneOf, Outcome, To, Fails, Runs, Start, is_fit_alone, slot_list, types_written}
+use Rattle.michelson_code.specs.Typing.{Applies, BodiesTyped, CodeTyped, EndsWith, IsKept, IsOneOf, Outcome, To, Fails, Runs, Start, is_fit_alone, slot_list, whole_types}
 use Rattle.michelson_code.specs.Weight.{code_count}
 use Rattle.michelson_code.specs.WrittenTypes.{has_comparable_keys, has_passable_values, has_storage_big_maps, is_free_of_big_maps, is_kept, is_within_limits}
 
@@ -100,9 +100,9 @@ pub record MakesOne (s : Script) (aside : ℕ) (i : Instr) (before : List Ty) (F
   pub made : Makes s aside i before set_aside stack
   pub faulty : Faulty set_aside stack
 
--- the types that an instruction writes
+-- the types that an instruction asks for as a whole
 abbrev pub types_of : Instr → List Ty
-types_of i = types_written (form_of i).operands
+types_of i = whole_types (out-Instr i)
 
 abbrev pub IsTooTall : ℕ → List Ty → Type 0
 IsTooTall n stack = 128 < n + length stack

@@ -186,9 +186,15 @@ pub data Runs {A : Type 0} : Instr-F A → List Ty → List Start → List Outco
 abbrev pub is_fit_alone : Instr → Bool
 is_fit_alone i = fit_at (map-Instr Instr Bool (λ j. true) (out-Instr i))
 
--- each type that the instruction writes may stand there
+-- the types that an instruction asks for as a whole: those that it writes, and of `EMPTY_SET` and `EMPTY_MAP` what they make of these
+abbrev pub whole_types : {A : Type 0} → Instr-F A → List Ty
+whole_types (one.EmptySet k) = type.Set k ∷ []
+whole_types (one.EmptyMap k v) = type.Map k v ∷ []
+whole_types x = types_written (form_at x).operands
+
+-- keys and elements of these types are comparable, and values of big maps passable
 abbrev pub writes_well : Instr → Bool
-writes_well i = list_all is_well_made (types_written (form_at (out-Instr i)).operands)
+writes_well i = list_all is_well_made (whole_types (out-Instr i))
 
 -- a stack on which code is typed: at most 128 items with those set aside, and no type beyond the limits
 pub record IsKept (aside : ℕ) (s : List Ty) : Type 0 where
