@@ -62,7 +62,7 @@ module _ (Q : Line → Choice → Type 0) (w : List Ty) (each : (l : Line) → C
 
 -- ---- so many items
 
-record Cut (n : ℕ) (b : List Ty) : Type 0 where
+pub record Cut (n : ℕ) (b : List Ty) : Type 0 where
   pub items : List Ty
   pub below : List Ty
   pub long : length items ≡ n
@@ -72,7 +72,7 @@ cut_more : (n : ℕ) (t : Ty) (b : List Ty) → Cut n b ⊎ (length b < n) → C
 cut_more n t b (inl c) = inl (record { items = t ∷ c.items; below = c.below; long = ap suc c.long; is = λ i. t ∷ c.is i })
 cut_more n t b (inr less) = inr (let cons : length (t ∷ b) ≡ suc (length b) = refl in omega arith)
 
-cut : (n : ℕ) (b : List Ty) → Cut n b ⊎ (length b < n)
+pub cut : (n : ℕ) (b : List Ty) → Cut n b ⊎ (length b < n)
 cut zero b = inl (record { items = []; below = b; long = refl; is = refl })
 cut (suc n) [] = inr (let none : length {A = Ty} [] ≡ 0 = refl in omega arith)
 cut (suc n) (t ∷ b) = cut_more n t b (cut n b)

@@ -16,17 +16,17 @@ use Rattle.michelson_code.proofs.OutcomeLaws.{code_once, left_by, lines_or_bodie
 
 -- ---- the first kind
 
-every_kind : List TypeKind
+pub every_kind : List TypeKind
 every_kind =
     kind.StackTooShort ∷ kind.WrongType ∷ kind.BranchesDiffer ∷ kind.NotComparable ∷ kind.BigMapPlace ∷ kind.EntryTwice ∷
     kind.FailNotLast ∷ kind.StackTooTall ∷ kind.TypeTooLarge ∷ kind.CodeTooLarge ∷ kind.LastStack ∷ []
 
-kind_of_number : (k : TypeKind) → get_or every_kind (kind_number k) kind.LastStack ≡ k
+pub kind_of_number : (k : TypeKind) → get_or every_kind (kind_number k) kind.LastStack ≡ k
 unfolding every_kind
 kind_of_number kind.StackTooShort = refl
 kind_of_number _ = refl
 
-data Order (m n : ℕ) : Type 0 where
+pub data Order (m n : ℕ) : Type 0 where
   is_below : m < n → Order m n
   is_above : n < m → Order m n
   is_same : m ≡ n → Order m n
@@ -36,7 +36,7 @@ one_up m n (is_below h) = is_below (omega arith)
 one_up m n (is_above h) = is_above (omega arith)
 one_up m n (is_same h) = is_same (ap suc h)
 
-order_of : (m n : ℕ) → Order m n
+pub order_of : (m n : ℕ) → Order m n
 order_of zero zero = is_same refl
 order_of zero (suc n) = is_below (omega arith)
 order_of (suc m) zero = is_above (omega arith)

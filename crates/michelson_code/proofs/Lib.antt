@@ -17,3 +17,4 @@ pub mod InversionLaws
 pub mod Deciding
 pub mod DecidedLines
 pub mod CounterTyped
+pub mod DecidedBodies

@@ -87,7 +87,7 @@ kind_shown (ty.BigMap p q) = 15
 kind_shown (ty.Contract p) = 16
 kind_shown ty.Operation = 17
 
-kind-shown : {P : Type 0} (f : P → Ty) (x : Level P) → kind_shown (level_shown f x) ≡ level_kind x
+pub kind-shown : {P : Type 0} (f : P → Ty) (x : Level P) → kind_shown (level_shown f x) ≡ level_kind x
 kind-shown f level.Unit = refl
 kind-shown f _ = refl
 

@@ -180,6 +180,11 @@ pub data Runs {A : Type 0} : Instr-F A → List Ty → List Start → List Outco
       Runs (one.Map c) (type.Map k v ∷ s) ((0, type.Pair k v ∷ s) ∷ []) (To (b ∷ s) ∷ []) (To (type.Map k b ∷ s))
   failwith : (a : Ty) (s : List Ty) → IsTrue (is_passable a) → Runs one.Failwith (a ∷ s) [] [] Fails
 
+-- an instruction with bodies finds its operands, however its bodies end
+abbrev pub MayBegin : Instr → List Ty → Type 0
+MayBegin i before =
+    (starts : List Start) × ((ends : List Outcome) × ((o : Outcome) × Runs (out-Instr i) before starts ends o))
+
 -- ---- code
 
 -- each number of the instruction may be read, and each value may be pushed; nothing is asked of its bodies

@@ -10,7 +10,7 @@ ghost use Rattle.michelson_code.specs.FirstFault.{ScriptFault};
 ghost use Rattle.michelson_code.specs.Inversion.{Finds};
 ghost use Rattle.michelson_code.specs.Printable.{IsPrintableScript};
 ghost use Rattle.michelson_code.specs.TypedScript.{IsTypedScript, counter};
-ghost use Rattle.michelson_code.specs.Typing.{Applies, CodeTyped, InstrTyped, Outcome, To};
+ghost use Rattle.michelson_code.specs.Typing.{Applies, CodeTyped, InstrTyped, MayBegin, Outcome, To};
 
 /// On a stack, an instruction without bodies leaves one stack at most.
 pub fn an_instruction_leaves_one_stack()
@@ -55,10 +55,12 @@ pub fn a_typed_instruction_finds_its_operands()
         InstrTyped s n i b o → Finds s n (out-Instr i) b o }
 {}
 
-/// An instruction without bodies finds its operands on a stack, or it doesn't.
+/// An instruction without bodies finds its operands on a stack, or it doesn't; and one with bodies may
+/// begin there, or it may not.
 pub fn operands_are_found_or_not()
-    ensures { (s : Script) (i : Instr) (b : List Ty) →
+    ensures lines { (s : Script) (i : Instr) (b : List Ty) →
         ((t : List Ty) × Applies s (out-Instr i) b t) ⊎ (((t : List Ty) × Applies s (out-Instr i) b t) → ⊥) }
+    ensures bodies { (i : Instr) (b : List Ty) → MayBegin i b ⊎ ¬ MayBegin i b }
 {}
 
 /// The counter is typed.
