@@ -43,3 +43,4 @@ pub mod SoundParameter
 pub mod SoundScript
 pub mod OperandFaults
 pub mod TypeAnswers
+pub mod MissingForms

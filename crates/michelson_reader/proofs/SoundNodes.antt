@@ -9,7 +9,8 @@ use Rattle.value_core.specs.Lawful.{is_lawful_blob, is_number}
 use Rattle.value_core.specs.Leaves.{is_text}
 use Rattle.micheline_text.specs.declared.node.Node.{Node}
 use Rattle.micheline_text.specs.declared.node.Body.TheVariants as body
-use Rattle.micheline_text.specs.Again.{Depth, argument_depth, brackets_level, depth_of_node, is_annotation, is_lawful, is_well_named, is_word, named_level}
+use Rattle.micheline_text.specs.Again.{Depth, argument_depth, brackets_level, depth_of_node, is_annotation, is_well_named, is_word, named_level}
+use Rattle.micheline_text.specs.Lawful.{is_lawful}
 use Rattle.micheline_text.specs.Printed.{is_empty}
 use Rattle.micheline_text.proofs.FitDepths.{depth_node, depth_prim, depth_seq}
 use Rattle.micheline_text.proofs.NodeLevels.{at_bytes, at_int, at_node, at_prim, at_seq, at_text}

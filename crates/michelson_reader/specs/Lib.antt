@@ -14,6 +14,5 @@ pub mod Lines
 -- what functions inside promise each other
 pub mod Printing
 pub mod Makers
-pub mod PlainForms
 pub mod Operands
 pub mod Returned

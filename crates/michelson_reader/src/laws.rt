@@ -1,6 +1,6 @@
 //! What is true of the texts of scripts, and of the faults of instructions.
 
-ghost use Rattle.std.specs.Prelude.{◌≡◌, ℕ, IsTrue, List, length};
+ghost use Rattle.std.specs.Prelude.{◌≡◌, ℕ, IsTrue, List, length, map};
 ghost use Rattle.micheline_text.specs.declared.node.Body.TheVariants as body;
 ghost use Rattle.micheline_text.specs.declared.node.Node.{Node};
 ghost use Rattle.michelson_code.specs.declared.instr.Instr.{Instr};
@@ -8,10 +8,11 @@ ghost use Rattle.michelson_code.specs.declared.script.Script as declared;
 ghost use Rattle.michelson_code.specs.Forms.{form_of};
 ghost use Rattle.michelson_code.specs.Lawful.{is_lawful_script};
 ghost use Rattle.michelson_code.specs.Printable.{IsPrintableScript};
-ghost use Rattle.michelson_reader.specs.CodeFaults.{instruction_read};
-ghost use Rattle.michelson_reader.specs.FirstAtFault.{fault_in, first_at_fault};
+ghost use Rattle.michelson_reader.specs.CodeFaults.{code_read, first_found, instruction_read};
+ghost use Rattle.michelson_reader.specs.FirstAtFault.{HasNoForm, fault_in, first_at_fault};
 ghost use Rattle.michelson_reader.specs.Printed.{script_text};
 ghost use Rattle.michelson_reader.specs.Script.{IsScriptOf};
+ghost use Rattle.michelson_reader.specs.TypeFaults.{no_form};
 
 /// A text spells at most one script.
 pub fn a_text_spells_one_script()
@@ -28,10 +29,20 @@ pub fn two_scripts_never_share_a_text()
 {}
 
 /// Of an instruction with as many arguments as the table of forms has operands, the fault of the
-/// first one from the left is told that isn't what stands there in the table.
+/// first one from the left is told that isn't what stands there in the table; where no form has as
+/// many, the word itself is told.
 pub fn the_first_operand_at_fault_is_told()
-    ensures { (i : Instr) (n : Node) (notes : List (List ℕ)) (args : List Node) →
+    ensures operands { (i : Instr) (n : Node) (notes : List (List ℕ)) (args : List Node) →
         n.body ≡ body.Prim (form_of i).word notes args →
         length args ≡ length (form_of i).operands →
         fault_in (instruction_read n) ≡ first_at_fault n.at notes (form_of i) args }
+    ensures word { (n : Node) (name : List ℕ) (notes : List (List ℕ)) (args : List Node) →
+        n.body ≡ body.Prim name notes args → HasNoForm name (length args) →
+        instruction_read n ≡ no_form n.at name }
+{}
+
+/// Of a code, the fault of the first instruction from the left is told that has one.
+pub fn the_first_instruction_at_fault_is_told()
+    ensures { (n : Node) (nodes : List Node) → n.body ≡ body.Seq nodes →
+        fault_in (code_read n) ≡ first_found (map (λ m. fault_in (instruction_read m)) nodes) }
 {}

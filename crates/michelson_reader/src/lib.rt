@@ -46,7 +46,8 @@ mod words;
 pub use data_nodes::{DataFault, DataKind, DataRefusal, print_data, read_data, read_storage};
 pub use fault::ReadFault;
 pub use laws::{
-    a_text_spells_one_script, the_first_operand_at_fault_is_told, two_scripts_never_share_a_text,
+    a_text_spells_one_script, the_first_instruction_at_fault_is_told,
+    the_first_operand_at_fault_is_told, two_scripts_never_share_a_text,
 };
 pub use printer::print_script;
 pub use script::read_script;

@@ -1,8 +1,7 @@
 //! Instructions that are a word alone.
 
 ghost use Rattle.std.specs.Prelude.{◌≡◌};
-ghost use Rattle.michelson_reader.specs.Names.{named, plain_forms};
-ghost use Rattle.michelson_reader.specs.PlainForms.{plain_of_cost_1_or_2, plain_of_cost_3, plain_of_cost_5_or_10};
+ghost use Rattle.michelson_reader.specs.Names.{named, plain_forms, plain_of_cost_1_or_2, plain_of_cost_3, plain_of_cost_5_or_10};
 
 use crate::words::is_word;
 use michelson_code::Instr;

@@ -109,7 +109,8 @@ fn the_names_of_entries_stand_with_their_ways(rt: HostRuntime) -> Result<(), Fai
 #[test]
 fn what_is_printed_is_read_as_the_same_script(rt: HostRuntime) -> Result<(), Fail> {
     let alloc = rt.alloc();
-    let texts: [&str; 3] = [
+    let texts: [&str; 4] = [
+        "parameter (or (nat %add) (or %rest unit (nat %sub))) ; storage unit ; code { PUSH (list (pair int nat)) { Pair 1 2 ; Pair 3 4 } ; IF_CONS { DIP 2 { DROP } } { ITER { DROP } } ; SELF %add }",
         "parameter int ; storage int ; code { UNPAIR ; ADD ; NIL operation ; PAIR }",
         "{ parameter int ; storage int ; code { UNPAIR ; ADD ; NIL operation ; PAIR } }",
         "parameter nat ; storage (big_map address nat) ; code { UNPAIR ; SWAP ; DUP ; SENDER ; GET ; IF_NONE { PUSH nat 0 } {} ; DIG 2 ; ADD ; SOME ; SENDER ; UPDATE ; NIL operation ; PAIR }",
