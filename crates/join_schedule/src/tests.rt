@@ -120,7 +120,12 @@ fn a_chain_of_512_operations_covers_their_conflicts(rt: HostRuntime) -> Result<(
     let published = Joins::new(lists);
     assert_eq!(rt; published.len(), 512);
     assert_eq!(rt; footprints.len(), 512);
-    assert_eq!(rt; bad_join(&published), None);
-    assert!(rt; first_unordered(alloc, &published, footprints.as_slice())?.is_none());
-    Ok(())
+    match bad_join(&published) {
+        Some(_) => Err(Fail::from("a bad list")),
+        None => {
+            let unordered = first_unordered(alloc, &published, footprints.as_slice())?;
+            assert!(rt; unordered.is_none());
+            Ok(())
+        }
+    }
 }
