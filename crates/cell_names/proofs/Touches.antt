@@ -5,7 +5,7 @@ use Rattle.std.specs.FinMap.{put}
 use Rattle.std.specs.FinMap.Entries.{is_sorted-put}
 use Rattle.value_core.specs.Places.{IsGap, IsPlace}
 use Rattle.value_core.proofs.PlaceLemmas.{find-place, find-gap, put-place, put-gap}
-use Rattle.value_core.proofs.SortedEntries.{T_of, true_of}
+use Rattle.value_core.proofs.Bools.{T_of, true_of}
 use Rattle.cell_names.specs.declared.cell.Cell.{Cell}
 use Rattle.cell_names.specs.declared.mode.Mode.{Mode}
 use Rattle.cell_names.specs.Modes.{joined}

@@ -18,7 +18,8 @@ use Rattle.micheline_text.specs.declared.node.Body.TheOpen.{Body-F}
 use Rattle.micheline_text.specs.declared.node.Body.TheViews.{out-Body}
 use Rattle.data_nodes.specs.Nodes.{Test, all_are, is_applied_body}
 use Rattle.data_nodes.specs.Data.{is_entry, is_written}
-use Rattle.data_nodes.specs.Readers.{Read, Reader, entries, is_above, then_read}
+use Rattle.value_core.specs.Lasts.{is_above}
+use Rattle.data_nodes.specs.Readers.{Read, Reader, entries, then_read}
 use Rattle.data_nodes.specs.Faults.{entry_at, key_and_value, reader, storage_read}
 use Rattle.data_nodes.proofs.NodeLevels.{reader-level, readers}
 use Rattle.data_nodes.proofs.ItemLaws.{Agree, if_ok, then_ok}

@@ -28,7 +28,8 @@ use Rattle.data_nodes.specs.declared.fault.DataRefusal.{DataRefusal}
 use Rattle.data_nodes.specs.declared.fault.DataRefusal.TheVariants.{Fault, NoMemory}
 use Rattle.data_nodes.specs.Answers.{Answers, Tells}
 use Rattle.data_nodes.specs.Data.{IsData}
-use Rattle.data_nodes.specs.Readers.{Read, Reader, ascending, at_second, bytes, comb, entries, fault, is_above, is_comb_of, items, made, number, pair, pair_of, string, then_read}
+use Rattle.value_core.specs.Lasts.{is_above}
+use Rattle.data_nodes.specs.Readers.{Read, Reader, ascending, at_second, bytes, comb, entries, fault, is_comb_of, items, made, number, pair, pair_of, string, then_read}
 use Rattle.data_nodes.specs.Faults.{alone, applied, data_read, entry_at, key_and_value, reader, sequence, storage_read, value_at, with_one}
 use Rattle.data_nodes.specs.FirstFault.{IsBefore, IsDataFault, IsFaulty, IsFirstFault, IsFirstOf, IsOutOfOrder, OfType, EntryOf, Part, Place, StandsAt, are_items_of, comb_parts, entry_fault, entry_parts, fault_here, key_here, level_pairs, map_parts, pair_parts, pairs_of, part, parts_here, parts_of, set_parts, unless}
 use Rattle.data_nodes.proofs.DataLaws.{data_is_read, read_is_data}

@@ -13,7 +13,8 @@ use Rattle.micheline_text.specs.declared.node.Node.{Node}
 use Rattle.data_nodes.specs.declared.fault.DataFault.{DataFault}
 use Rattle.data_nodes.specs.Nodes.{all_are}
 use Rattle.data_nodes.specs.Data.{is_written}
-use Rattle.data_nodes.specs.Readers.{Read, Reader, ascending, is_above, items, made, then_read}
+use Rattle.value_core.specs.Lasts.{is_above}
+use Rattle.data_nodes.specs.Readers.{Read, Reader, ascending, items, made, then_read}
 use Rattle.data_nodes.specs.Faults.{reader, storage_read}
 
 -- ---- tests, and steps that succeeded

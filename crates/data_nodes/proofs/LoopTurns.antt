@@ -6,25 +6,10 @@ use Rattle.std.proofs.lemmas.List.{drop_more, length-append}
 use Rattle.value_core.specs.declared.ty.Ty.{Ty}
 use Rattle.value_core.specs.declared.val.Val.{Val}
 use Rattle.micheline_text.specs.declared.node.Node.{Node}
-use Rattle.data_nodes.specs.LastRead.{last_item, last_key}
-use Rattle.data_nodes.specs.Readers.{Read, Reader, ascending, entries, is_above, then_read}
+use Rattle.value_core.specs.Lasts.{is_above, last_item, last_key}
+use Rattle.value_core.proofs.LastLemmas.{last_item-more, last_key-more}
+use Rattle.data_nodes.specs.Readers.{Read, Reader, ascending, entries, then_read}
 use Rattle.data_nodes.specs.Faults.{reader, storage_read}
-
--- ---- the last of what was read
-
-last_of_more : {A : Type 0} (front : List A) (a : A) → slice_get (front ++ a ∷ []) (length front) ≡ Some a
-last_of_more [] a = refl
-last_of_more (b ∷ front) a = last_of_more front a
-
-last_item-more : (front : List Val) (v : Val) → last_item (front ++ v ∷ []) ≡ Some v
-last_item-more front v =
-    let before : length (front ++ v ∷ []) - 1 ≡ length front = omega (arith, length-append front (v ∷ [])) in
-    rw before (last_of_more front v)
-
-last_key-more : (front : List (Val × Val)) (e : Val × Val) → last_key (front ++ e ∷ []) ≡ Some e.0
-last_key-more front e =
-    let before : length (front ++ e ∷ []) - 1 ≡ length front = omega (arith, length-append front (e ∷ [])) in
-    rw before (ap (option_map (λ (z : Val × Val). z.0)) (last_of_more front e))
 
 -- ---- what was read before what is read
 

@@ -14,7 +14,8 @@ use Rattle.micheline_text.specs.declared.node.Body.TheOpen as body
 use Rattle.micheline_text.specs.declared.node.Body.TheOpen.{Body-F, Node-F}
 use Rattle.micheline_text.specs.declared.node.Body.TheFolds.{fold-Node}
 use Rattle.data_nodes.specs.declared.fault.DataKind.TheVariants.{Shape, Order, TooLarge}
-use Rattle.data_nodes.specs.Readers.{Read, Reader, ascending, bytes, entries, fault, is_above, items, made, number, pair, string, then_read}
+use Rattle.value_core.specs.Lasts.{is_above}
+use Rattle.data_nodes.specs.Readers.{Read, Reader, ascending, bytes, entries, fault, items, made, number, pair, string, then_read}
 
 -- nodes in braces; a list, a set and a map have fewer than 2^32 of them
 abbrev pub sequence : ℕ → List Reader → Ty → Ty-F Ty → Read Val

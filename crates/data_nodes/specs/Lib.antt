@@ -10,5 +10,4 @@ pub mod Answers
 pub mod Printed
 -- what functions inside promise each other
 pub mod Printing
-pub mod LastRead
 pub mod Parts

@@ -1,6 +1,5 @@
 -- Literals, pairs, lists, sets and maps read from the left, and what is faulty in them.
 use Rattle.std.specs.Prelude.{ℕ, ℤ, pos, ◌^◌, Bool, true, false, ◌&&◌, int_le, int_lt, nat_abs, List, [], ◌∷◌, if◌then◌else◌, Option, None, Some, Result, Ok, Err}
-use Rattle.std.specs.Ordering.{is_lt}
 use Rattle.value_core.specs.declared.ty.Ty.{Ty}
 use Rattle.value_core.specs.declared.ty.Ty.TheOpen as ty
 use Rattle.value_core.specs.declared.ty.Ty.TheOpen.{Ty-F}
@@ -8,10 +7,10 @@ use Rattle.value_core.specs.declared.ty.Ty.TheViews.{out-Ty}
 use Rattle.value_core.specs.declared.val.Val.{Val}
 use Rattle.value_core.specs.declared.val.Val.TheVariants as value
 use Rattle.value_core.specs.Leaves.{is_address}
-use Rattle.value_core.specs.Order.{order}
 use Rattle.data_nodes.specs.declared.fault.DataFault.{DataFault}
 use Rattle.data_nodes.specs.declared.fault.DataKind.{DataKind}
 use Rattle.data_nodes.specs.declared.fault.DataKind.TheVariants.{Shape, Range, Order}
+use Rattle.value_core.specs.Lasts.{is_above}
 
 abbrev pub Read : Type 0 → Type 0
 Read A = Result A DataFault
@@ -69,11 +68,6 @@ abbrev pub comb : ℕ → List Reader → Ty → Read Val
 comb at [] t = fault Shape at
 comb at (x ∷ []) t = x.value t
 comb at (x ∷ y ∷ more) t = pair_of at x (comb at (y ∷ more)) (out-Ty t)
-
--- strictly above the one before, if there is one
-abbrev pub is_above : Option Val → Val → Bool
-is_above None v = true
-is_above (Some last) v = is_lt (order last v)
 
 abbrev pub items : Ty → List Reader → Read (List Val)
 items t [] = Ok []

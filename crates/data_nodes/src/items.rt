@@ -2,8 +2,8 @@
 
 ghost use Rattle.std.specs.Prelude.{◌≡◌, None, map};
 ghost use Rattle.data_nodes.specs.Answers.{Answers};
-ghost use Rattle.data_nodes.specs.LastRead.{last_item, last_key};
-ghost use Rattle.data_nodes.specs.Readers.{ascending, entries, is_above, items};
+ghost use Rattle.value_core.specs.Lasts.{is_above, last_item, last_key};
+ghost use Rattle.data_nodes.specs.Readers.{ascending, entries, items};
 ghost use Rattle.data_nodes.specs.Faults.{entry_of, key_and_value, reader};
 
 use crate::fault::{DataRefusal, out_of_order, shape};

@@ -14,9 +14,8 @@ use Rattle.std.specs.List.{list_all}
 use Rattle.std.specs.List.Sorted.{IsPartitionedBy, IsPartitionPoint}
 use Rattle.std.specs.FinMap.{entries, entries_sorted, same_entries_map, find, is_sorted, entries-from_sorted, get-from_sorted}
 use Rattle.std.specs.FinMap.Entries.{below_all}
-use Rattle.value_core.proofs.Bools.{first_true, second_true}
 use Rattle.value_core.proofs.PlaceLemmas.{is_Less}
-use Rattle.value_core.proofs.SortedEntries.{T_of, true_of}
+use Rattle.value_core.proofs.Bools.{T_of, first_true, second_true, true_of}
 use Rattle.cell_names.specs.Accounts.{IsImplicit}
 use Rattle.ledger_state.specs.declared.holding.Holding.{Holding}
 use Rattle.ledger_state.specs.Ledger.{Ledger, Balances, BalanceEntry, AreBalances, Ascends, pair, balance, changed, supply}

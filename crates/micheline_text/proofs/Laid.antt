@@ -3,6 +3,7 @@ use Rattle.std.proofs.Common.{◌≡◌, ℕ, ◌≤◌, ◌⊎◌, inl, inr, Bo
 use Rattle.std.specs.Prelude.{◌==◌, not, ◌&&◌}
 use Rattle.std.specs.List.{prefix_len, flat_map, AllByRecursion}
 use Rattle.std.proofs.lemmas.List.{append-nil}
+use Rattle.std.proofs.lemmas.Bool.{and_parts}
 use Rattle.std.proofs.lemmas.Bool.Decides.{nat_tests}
 use Rattle.std.proofs.lemmas.List.Concat.{flat_map-cons}
 use Rattle.micheline_text.specs.declared.gap.Gap.TheVariants as gap
@@ -28,10 +29,6 @@ last_line : (line : List ℕ) → AllAre (λ b. not (b == 10)) line → gap_from
 last_line [] h = refl
 last_line (b ∷ line) h = rw (is_true (b == 10) h.0) (last_line line h.1)
 
-both_true : (a b : Bool) → (a && b) ≡ true → (a ≡ true) × (b ≡ true)
-both_true true b e = (refl, e)
-both_true false b e = absurd cc
-
 -- in a comment, and behind a `*` in it
 abbrev Ends : ℕ → List ℕ → List ℕ → Type 0
 Ends from inner rest = (gap_from (mode.Block from) (inner ++ 42 ∷ 47 ∷ rest) ≡ gap_from mode.Between rest) ×
@@ -50,7 +47,7 @@ comment_byte from b inner rest false is e h = (rw is h.0, λ f. rw (f, is) h.0)
 comment_part : (from : ℕ) (inner rest : List ℕ) → has_no_end inner ≡ true → Ends from inner rest
 comment_part from [] rest e = (refl, λ f. refl)
 comment_part from (b ∷ inner) rest e =
-    let p = both_true (not ((b == 42) && begins_slash inner)) (has_no_end inner) e in
+    let p = and_parts (not ((b == 42) && begins_slash inner)) (has_no_end inner) e in
     comment_byte from b inner rest (b == 42) refl p.0 (comment_part from inner rest p.1)
 
 -- a part takes a byte at least
@@ -72,7 +69,7 @@ open_byte from b inner false is e h = (rw is h.0, λ f. rw (f, is) h.0)
 pub stays_open : (from : ℕ) (inner : List ℕ) → has_no_end inner ≡ true → StaysOpen from inner
 stays_open from [] e = (refl, λ f. refl)
 stays_open from (b ∷ inner) e =
-    let p = both_true (not ((b == 42) && begins_slash inner)) (has_no_end inner) e in
+    let p = and_parts (not ((b == 42) && begins_slash inner)) (has_no_end inner) e in
     open_byte from b inner (b == 42) refl p.0 (stays_open from inner p.1)
 
 pub part_passes : (part rest : List ℕ) → IsPart part → gap_from mode.Between (part ++ rest) ≡ gap_from mode.Between rest

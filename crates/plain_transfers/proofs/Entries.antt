@@ -9,7 +9,7 @@ use Rattle.std.specs.List.{AllByRecursion}
 use Rattle.std.specs.FinMap.Entries.{by_order, put, where_key, find, below_all, is_sorted}
 use Rattle.std.proofs.lemmas.List.Recursion.{is_sum_by}
 use Rattle.std.proofs.lemmas.List.Sums.{sum-map}
-use Rattle.value_core.proofs.SortedEntries.{left, right}
+use Rattle.value_core.proofs.Bools.{left, right}
 
 -- the values together
 abbrev pub total : {K : Type 0} → List (K × ℕ) → ℕ

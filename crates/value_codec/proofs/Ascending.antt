@@ -7,7 +7,7 @@ use Rattle.byte_fields.specs.Laws.{AllAlong}
 use Rattle.value_core.specs.declared.val.Val.{Val}
 use Rattle.value_core.specs.Order.{order}
 use Rattle.value_core.specs.Sound.{ascends}
-use Rattle.value_codec.specs.Reading.{is_above}
+use Rattle.value_core.specs.Lasts.{is_above}
 use Rattle.value_core.proofs.Bools.{both_true, first_true, second_true}
 
 module _ {A : Type 0} (key : A → Val) (Good : A → Type 0) where

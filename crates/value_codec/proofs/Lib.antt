@@ -1,6 +1,5 @@
 pub mod Spelt
 pub mod Numbers
-pub mod LastLemmas
 pub mod Turns
 pub mod Levels
 pub mod Ascending

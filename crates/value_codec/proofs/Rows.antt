@@ -17,7 +17,8 @@ use Rattle.value_core.specs.Leaves.{IsNumber, is_text, is_blob, is_address}
 use Rattle.value_core.specs.Sound.{ascends, is_countable}
 use Rattle.value_core.proofs.LawfulLemmas.{all_small, small_all}
 use Rattle.value_codec.specs.Spelling.{word, signed_word, spell, spell_entry}
-use Rattle.value_codec.specs.Reading.{num, nat, mutez, measured, address, place, is_above, ascending, entries, value}
+use Rattle.value_core.specs.Lasts.{is_above}
+use Rattle.value_codec.specs.Reading.{num, nat, mutez, measured, address, place, ascending, entries, value}
 use Rattle.value_codec.proofs.Numbers.{number_fits}
 use Rattle.value_core.proofs.Bools.{both_true, first_true, second_true}
 use Rattle.value_codec.proofs.Levels.{IsGood}
@@ -80,11 +81,6 @@ address_reads = reads_as (λ bytes. bytes) (λ bytes. IsTrue (is_lawful_address 
     let run : IsRun 22 bytes = record { len = eqb-true (length bytes) 22 (first_true (length bytes == 22) _ one); fits = small_all bytes (second_true (is_address bytes) _ is) } in
     (run, one))
     (checked_reads is_address (byte_run_reads 22))
-
--- the same where the text alone is asked to be an address; what is read is bytes in any case
-pub any_address_reads : Reads address (λ bytes. bytes) (λ bytes. IsTrue (is_address bytes))
-any_address_reads = reads_as (λ bytes. bytes) (λ bytes. IsTrue (is_address bytes)) (λ bytes good. (refl, good.1))
-    (λ bytes is. (eqb-true (length bytes) 22 (first_true (length bytes == 22) _ is), is)) (checked_reads is_address (run_reads 22))
 
 -- ---- lists, sets and maps
 

@@ -4,9 +4,9 @@ use Rattle.std.specs.Int.{w8}
 use Rattle.byte_fields.specs.Readers.{Read, Reader, after, checked, number, many}
 use Rattle.byte_fields.proofs.Loops.{with_front, goes_on}
 use Rattle.value_core.specs.declared.val.Val.{Val}
-use Rattle.value_codec.specs.Lasts.{last_item, last_key}
-use Rattle.value_codec.specs.Reading.{is_above, ascending, entries, is_tag, behind, value}
-use Rattle.value_codec.proofs.LastLemmas.{last_item-more, last_key-more}
+use Rattle.value_core.specs.Lasts.{is_above, last_item, last_key}
+use Rattle.value_codec.specs.Reading.{ascending, entries, is_tag, behind, value}
+use Rattle.value_core.proofs.LastLemmas.{last_item-more, last_key-more}
 
 pub one_more : (read : Reader Val) (front : List Val) (count i : ℕ) (bytes : List ℕ) (v : Val) (rest : List ℕ) (total : Read (List Val)) →
     i < count → read bytes ≡ Ok (v, rest) → with_front front (many read (count - i) bytes) ≡ total →

@@ -2,4 +2,3 @@
 pub mod Spelling
 pub mod Reading
 -- what functions inside promise each other
-pub mod Lasts

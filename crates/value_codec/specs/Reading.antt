@@ -1,14 +1,13 @@
 -- Reading values: which bytes are read, and where the fault of others is.
 use Rattle.std.specs.Prelude.{ℕ, zero, suc, ℤ, pos, ◌^◌, ◌&&◌, List, length, Bool, true, false, Option, Some, None, Err, nat_lt, nat_le, int_le, ◌==◌, if◌then◌else◌}
 use Rattle.std.specs.Int.{w8, w32, w64, w128}
-use Rattle.std.specs.Ordering.{is_lt}
 use Rattle.byte_fields.specs.Stops.{Faulty, Stopped}
 use Rattle.byte_fields.specs.Readers.{Reader, given, made, both, with, checked, chained, many, run, number, signed, tagged}
 use Rattle.value_core.specs.declared.val.Val.{Val}
 use Rattle.value_core.specs.declared.val.Val.TheVariants as variant
 use Rattle.value_core.specs.Lawful.{is_number}
 use Rattle.value_core.specs.Leaves.{is_text, is_blob, is_address}
-use Rattle.value_core.specs.Order.{order}
+use Rattle.value_core.specs.Lasts.{is_above}
 
 -- a number in sixteen bytes
 abbrev pub num : Reader ℤ
@@ -37,11 +36,6 @@ address = checked is_address (run 22)
 -- the place of a big map
 abbrev pub place : Reader ℕ
 place = checked (λ n. nat_lt n 16) (number w8)
-
--- it stands above the last one, where there is one
-abbrev pub is_above : Option Val → Val → Bool
-is_above None v = true
-is_above (Some last) v = is_lt (order last v)
 
 -- items that ascend; one that doesn't is told at its tag, once it is read
 abbrev pub ascending : Reader Val → Option Val → ℕ → Reader (List Val)

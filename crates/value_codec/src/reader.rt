@@ -6,9 +6,9 @@ ghost use Rattle.byte_fields.specs.Readers.{both, made, many, number, with};
 ghost use Rattle.byte_fields.specs.Told.{AnswersUnlessFull, placed, read_stop, field_fault};
 ghost use Rattle.byte_fields.specs.Laws.{Spelt, TellsSpelt};
 ghost use Rattle.value_core.specs.declared.val.Val.TheVariants as variant;
-ghost use Rattle.value_codec.specs.Lasts.{last_item, last_key};
+ghost use Rattle.value_core.specs.Lasts.{is_above, last_item, last_key};
 ghost use Rattle.value_codec.specs.Spelling.{spell, IsSpelt};
-ghost use Rattle.value_codec.specs.Reading.{ascending, behind, entries, is_above, is_tag, value};
+ghost use Rattle.value_codec.specs.Reading.{ascending, behind, entries, is_tag, value};
 
 use crate::leaves::{addr_at, big_map_at, blob_at, int_at, mutez_at, nat_at, text_at, time_at};
 use crate::tag::ANY_VALUE;

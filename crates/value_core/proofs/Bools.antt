@@ -1,5 +1,5 @@
 -- Tests that hold together, and in which order they are joined.
-use Rattle.std.proofs.Common.{◌≡◌, Bool, true, false, refl}
+use Rattle.std.proofs.Common.{◌≡◌, Bool, true, false, T, refl}
 use Rattle.std.specs.Prelude.{◌&&◌}
 
 pub both_true : (a b : Bool) → a ≡ true → b ≡ true → (a && b) ≡ true
@@ -33,3 +33,21 @@ exchanged true true c d = refl
 exchanged true false true d = refl
 exchanged true false false d = refl
 exchanged false b c d = refl
+
+-- ---- the same of tests as types
+
+pub left : (a b : Bool) → T (a && b) → T a
+left true b h = tt
+left false b h = absurd h
+
+pub right : (a b : Bool) → T (a && b) → T b
+right true b h = h
+right false b h = absurd h
+
+pub T_of : (b : Bool) → b ≡ true → T b
+T_of true h = tt
+T_of false h = absurd cc
+
+pub true_of : (b : Bool) → T b → b ≡ true
+true_of true h = refl
+true_of false h = absurd h

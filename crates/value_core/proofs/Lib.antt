@@ -6,6 +6,7 @@ pub mod CanonicalScalars
 pub mod Combs
 pub mod Depths
 pub mod Everywhere
+pub mod LastLemmas
 pub mod LawfulLemmas
 pub mod Levels
 pub mod OrderLemmas

@@ -1,6 +1,6 @@
 -- What is found, put and taken out among items in the order of their keys, by the place of the key.
 use Rattle.std.proofs.Common.{◌≡◌, ℕ, zero, suc, ◌+◌, ◌<◌, ◌≤◌, Bool, true, false, not, cond, List, [], ◌∷◌, length, get_or, set, Result, Ok, Err, Some, None, Ordering, refl, sym, ap, subst, ◌∙◌, arith, inl, inr}
-use Rattle.std.specs.Prelude.{IsTrue, ◌&&◌, ◌||◌, insert, remove}
+use Rattle.std.specs.Prelude.{IsTrue, ◌||◌, insert, remove}
 use Rattle.std.specs.declared.cmp.Ordering.TheVariants.{Less, Equal, Greater}
 use Rattle.std.specs.Ordering.{is_lt, is_eq, eq_by_cmp, ordering_reverse}
 use Rattle.std.specs.Cmp.{IsTotalOrder, tied_itself}
@@ -9,13 +9,9 @@ use Rattle.std.specs.List.Sorted.{IsBinarySearchResult, IsSearchInRange, IsSorte
 use Rattle.std.specs.FinMap.{IsAntisymmetric, find, put, is_sorted}
 use Rattle.std.specs.FinMap.Entries.{below_all, by_order}
 use Rattle.std.proofs.lemmas.List.Sorted.{searchable_from_sorted}
-use Rattle.std.proofs.lemmas.Bool.{cases_lt}
+use Rattle.std.proofs.lemmas.Bool.{and_parts, cases_lt}
 use Rattle.value_core.specs.Places.{IsGap, IsPlace, StandsAt}
 use Rattle.value_core.specs.Sorted.{has, with_key}
-
-pub both_true : (a b : Bool) → IsTrue (a && b) → IsTrue a × IsTrue b
-both_true true b h = (refl, h)
-both_true false b h = absurd cc
 
 pub is_Less : (r : Ordering) → is_lt r ≡ true → r ≡ Less
 is_Less Less e = refl
@@ -50,15 +46,15 @@ module _ {K X : Type 0} {R : K → K → Ordering} (o : IsTotalOrder R) where
 
   below_at : (x : K) (es : List (K × X)) (j : ℕ) (d : K × X) → IsTrue (below_all R x es) → j < length es → R x (get_or es j d).0 ≡ Less
   below_at x [] j d h lt = absurd (omega arith)
-  below_at x (e ∷ es) zero d h lt = is_Less _ (both_true _ _ h).0
-  below_at x (e ∷ es) (suc j) d h lt = below_at x es j d (both_true _ _ h).1 (omega arith)
+  below_at x (e ∷ es) zero d h lt = is_Less _ (and_parts _ _ h).0
+  below_at x (e ∷ es) (suc j) d h lt = below_at x es j d (and_parts _ _ h).1 (omega arith)
 
   -- an earlier key is below a later one
   pub rises : (es : List (K × X)) (i j : ℕ) (d : K × X) → IsTrue (is_sorted R es) → i < j → j < length es → R (get_or es i d).0 (get_or es j d).0 ≡ Less
   rises [] i j d h lt small = absurd (omega arith)
   rises (e ∷ es) i zero d h lt small = absurd (omega arith)
-  rises (e ∷ es) zero (suc j) d h lt small = below_at e.0 es j d (both_true _ _ h).0 (omega arith)
-  rises (e ∷ es) (suc i) (suc j) d h lt small = rises es i j d (both_true _ _ h).1 (omega arith) (omega arith)
+  rises (e ∷ es) zero (suc j) d h lt small = below_at e.0 es j d (and_parts _ _ h).0 (omega arith)
+  rises (e ∷ es) (suc i) (suc j) d h lt small = rises es i j d (and_parts _ _ h).1 (omega arith) (omega arith)
 
   pub sorted_by : (es : List (K × X)) → IsTrue (is_sorted R es) → IsSortedBy (λ a b. is_lt (R a.0 b.0)) es
   sorted_by es h k d low high = ap is_lt (turned o _ _ Less (rises es k (k + 1) d h (omega arith) high))
@@ -67,8 +63,8 @@ module _ {K X : Type 0} {R : K → K → Ordering} (o : IsTotalOrder R) where
   find-at [] i d h lt = absurd (omega arith)
   find-at (e ∷ es) zero d h lt = ap (λ r. cond (is_eq r) (Some e.1) (find R e.0 es)) (tied_itself o e.0)
   find-at (e ∷ es) (suc i) d h lt =
-      let above : R (get_or es i d).0 e.0 ≡ Greater = turned o _ _ Less (below_at e.0 es i d (both_true _ _ h).0 (omega arith)) in
-      ap (λ r. cond (is_eq r) (Some e.1) (find R (get_or es i d).0 es)) above ∙ find-at es i d (both_true _ _ h).1 (omega arith)
+      let above : R (get_or es i d).0 e.0 ≡ Greater = turned o _ _ Less (below_at e.0 es i d (and_parts _ _ h).0 (omega arith)) in
+      ap (λ r. cond (is_eq r) (Some e.1) (find R (get_or es i d).0 es)) above ∙ find-at es i d (and_parts _ _ h).1 (omega arith)
 
   -- the value at the place of its key
   pub find-place : (es : List (K × X)) (q : K) (i : ℕ) (d : K × X) → IsTrue (is_sorted R es) → IsPlace key_of es q i → find R q es ≡ Some (get_or es i d).1
@@ -79,8 +75,8 @@ module _ {K X : Type 0} {R : K → K → Ordering} (o : IsTotalOrder R) where
   put-at (e ∷ es) zero d v h lt = ap (λ r. by_order r ((e.0, v) ∷ e ∷ es) ((e.0, v) ∷ es) (e ∷ put R e.0 v es)) (tied_itself o e.0)
   put-at (e ∷ es) (suc i) d v h lt =
       let k = (get_or es i d).0 in
-      let above : R k e.0 ≡ Greater = turned o _ _ Less (below_at e.0 es i d (both_true _ _ h).0 (omega arith)) in
-      ap (λ r. by_order r ((k, v) ∷ e ∷ es) ((e.0, v) ∷ es) (e ∷ put R k v es)) above ∙ ap (λ l. e ∷ l) (put-at es i d v (both_true _ _ h).1 (omega arith))
+      let above : R k e.0 ≡ Greater = turned o _ _ Less (below_at e.0 es i d (and_parts _ _ h).0 (omega arith)) in
+      ap (λ r. by_order r ((k, v) ∷ e ∷ es) ((e.0, v) ∷ es) (e ∷ put R k v es)) above ∙ ap (λ l. e ∷ l) (put-at es i d v (and_parts _ _ h).1 (omega arith))
 
   -- a new value at the place of its key
   pub put-place : (es : List (K × X)) (q : K) (i : ℕ) (v : X) → IsTrue (is_sorted R es) → IsPlace key_of es q i → put R q v es ≡ set es i (q, v)

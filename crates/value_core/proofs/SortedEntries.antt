@@ -10,36 +10,9 @@ use Rattle.std.specs.FinMap.{IsAntisymmetric}
 use Rattle.std.specs.FinMap.Entries.{by_order, put, find, below_all, is_sorted, find-put, find-where_key}
 use Rattle.std.proofs.lemmas.List.Recursion.{is_sum_by}
 use Rattle.value_core.specs.Sorted.{without}
+use Rattle.value_core.proofs.Bools.{both_true, first_true, left, right, second_true}
 
 -- ---- tests
-
-pub left : (a b : Bool) → T (a && b) → T a
-left true b h = tt
-left false b h = absurd h
-
-pub right : (a b : Bool) → T (a && b) → T b
-right true b h = h
-right false b h = absurd h
-
-pub also : (a b : Bool) → a ≡ true → b ≡ true → (a && b) ≡ true
-also true b p q = q
-also false b p q = absurd cc
-
-pub first : (a b : Bool) → (a && b) ≡ true → a ≡ true
-first true b h = refl
-first false b h = absurd cc
-
-pub second : (a b : Bool) → (a && b) ≡ true → b ≡ true
-second true b h = h
-second false b h = absurd cc
-
-pub T_of : (b : Bool) → b ≡ true → T b
-T_of true h = tt
-T_of false h = absurd cc
-
-pub true_of : (b : Bool) → T b → b ≡ true
-true_of true h = refl
-true_of false h = absurd h
 
 is_less : (r : Ordering) → T (is_lt r) → r ≡ Less
 is_less Less h = refl
@@ -101,8 +74,8 @@ without_absent R k (e ∷ es) none =
 pub all-filter : {A : Type 0} (p test : A → Bool) (xs : List A) → list_all p xs ≡ true → list_all p (filter test xs) ≡ true
 all-filter p test [] h = refl
 all-filter p test (x ∷ xs) h =
-    let rest = all-filter p test xs (second (p x) (list_all p xs) h) in
-    elim (test x) as (λ b. list_all p (cond b (x ∷ filter test xs) (filter test xs)) ≡ true) [ true ↦ also (p x) (list_all p (filter test xs)) (first (p x) (list_all p xs) h) rest | false ↦ rest ]
+    let rest = all-filter p test xs (second_true (p x) (list_all p xs) h) in
+    elim (test x) as (λ b. list_all p (cond b (x ∷ filter test xs) (filter test xs)) ≡ true) [ true ↦ both_true (p x) (list_all p (filter test xs)) (first_true (p x) (list_all p xs) h) rest | false ↦ rest ]
 
 module _ {K X : Type 0} (R : K → K → Ordering) (p : K → Bool) (q : X → Bool) where
   -- a test of keys and of values
@@ -110,14 +83,14 @@ module _ {K X : Type 0} (R : K → K → Ordering) (p : K → Bool) (q : X → B
   both e = p e.0 && q e.1
 
   pub all-put : (k : K) (v : X) (es : List (K × X)) → p k ≡ true → q v ≡ true → list_all both es ≡ true → list_all both (put R k v es) ≡ true
-  all-put k v [] key value h = also (p k && q v) true (also (p k) (q v) key value) refl
+  all-put k v [] key value h = both_true (p k && q v) true (both_true (p k) (q v) key value) refl
   all-put k v (e ∷ es) key value h =
-      let here = first (both e) (list_all both es) h in
-      let later = second (both e) (list_all both es) h in
+      let here = first_true (both e) (list_all both es) h in
+      let later = second_true (both e) (list_all both es) h in
       elim (R k e.0) as (λ r. list_all both (by_order r ((k, v) ∷ e ∷ es) ((e.0, v) ∷ es) (e ∷ put R k v es)) ≡ true) [
-        | Less ↦ also (p k && q v) (list_all both (e ∷ es)) (also (p k) (q v) key value) h
-        | Equal ↦ also (p e.0 && q v) (list_all both es) (also (p e.0) (q v) (first (p e.0) (q e.1) here) value) later
-        | Greater ↦ also (both e) (list_all both (put R k v es)) here (all-put k v es key value later)
+        | Less ↦ both_true (p k && q v) (list_all both (e ∷ es)) (both_true (p k) (q v) key value) h
+        | Equal ↦ both_true (p e.0 && q v) (list_all both es) (both_true (p e.0) (q v) (first_true (p e.0) (q e.1) here) value) later
+        | Greater ↦ both_true (both e) (list_all both (put R k v es)) here (all-put k v es key value later)
       ]
 
 -- ---- what all weigh

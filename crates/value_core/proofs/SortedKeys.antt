@@ -10,7 +10,8 @@ use Rattle.std.specs.FinMap.{IsAntisymmetric}
 use Rattle.std.specs.FinMap.Entries.{by_order, put, find, is_sorted, is_some-find, is_sorted-put, length-put, length_without, same_entries}
 use Rattle.std.proofs.lemmas.List.Sums.{sum_by-cons}
 use Rattle.value_core.specs.Sorted.{has, with_key, without, without_key}
-use Rattle.value_core.proofs.SortedEntries.{also, first, second, find-put_itself, find-put_other, find-without_itself, find-without_other, weight, weight-put_new, weight-put_old, weight-without, without_absent}
+use Rattle.value_core.proofs.Bools.{both_true, first_true, second_true}
+use Rattle.value_core.proofs.SortedEntries.{find-put_itself, find-put_other, find-without_itself, find-without_other, weight, weight-put_new, weight-put_old, weight-without, without_absent}
 
 -- the keys as entries
 abbrev pub units : {K : Type 0} → List K → List (K × Unit {0})
@@ -76,12 +77,12 @@ module _ {K : Type 0} (R : K → K → Ordering) where
 
   -- what holds of each key
   pub all-with : (p : K → Bool) (k : K) (ks : List K) → p k ≡ true → list_all p ks ≡ true → list_all p (with_key R k ks) ≡ true
-  all-with p k [] key h = also (p k) true key refl
+  all-with p k [] key h = both_true (p k) true key refl
   all-with p k (x ∷ xs) key h =
       elim (R k x) as (λ r. list_all p (by_order r (k ∷ x ∷ xs) (x ∷ xs) (x ∷ with_key R k xs)) ≡ true) [
-        | Less ↦ also (p k) (list_all p (x ∷ xs)) key h
+        | Less ↦ both_true (p k) (list_all p (x ∷ xs)) key h
         | Equal ↦ h
-        | Greater ↦ also (p x) (list_all p (with_key R k xs)) (first (p x) (list_all p xs) h) (all-with p k xs key (second (p x) (list_all p xs) h))
+        | Greater ↦ both_true (p x) (list_all p (with_key R k xs)) (first_true (p x) (list_all p xs) h) (all-with p k xs key (second_true (p x) (list_all p xs) h))
       ]
 
 -- ---- what is found

@@ -26,7 +26,8 @@ use Rattle.value_core.proofs.SoundLemmas.{sound-map, sound-set}
 use Rattle.value_core.proofs.Sizes.{size-map, size-set}
 use Rattle.value_core.proofs.TypedLemmas.{fits-map, fits-set}
 use Rattle.value_core.proofs.TotalOrder.{order_lawful}
-use Rattle.value_core.proofs.SortedEntries.{also, first, second, T_of, true_of, all-filter, all-put, both, weight, weight-is, weight-put_new, weight-put_old, weight-without}
+use Rattle.value_core.proofs.Bools.{both_true, first_true, second_true, T_of, true_of}
+use Rattle.value_core.proofs.SortedEntries.{all-filter, all-put, both, weight, weight-is, weight-put_new, weight-put_old, weight-without}
 use Rattle.value_core.proofs.SortedKeys.{all-with, keys-units, sorted-with, sum-with, sum-without_key, units, units-with, units-without}
 
 pub total : IsTotalOrder order
@@ -51,9 +52,9 @@ suffices true false true s h = let no : false ≡ true = h refl refl in absurd c
 below_less : {X : Type 0} (x y : Val) (es : List (Val × X)) → is_lt (order x y) ≡ true → below_all order y es ≡ true → below_all order x es ≡ true
 below_less x y [] low h = refl
 below_less x y (e ∷ es) low h =
-    also (is_lt (order x e.0)) (below_all order x es)
-    (ap is_lt (total.trans x y e.0 (is_less (order x y) low) (is_less (order y e.0) (first (is_lt (order y e.0)) (below_all order y es) h))))
-    (below_less x y es low (second (is_lt (order y e.0)) (below_all order y es) h))
+    both_true (is_lt (order x e.0)) (below_all order x es)
+    (ap is_lt (total.trans x y e.0 (is_less (order x y) low) (is_less (order y e.0) (first_true (is_lt (order y e.0)) (below_all order y es) h))))
+    (below_less x y es low (second_true (is_lt (order y e.0)) (below_all order y es) h))
 
 pub ascends-keys : {X : Type 0} (es : List (Val × X)) → ascends (map (λ e. e.0) es) ≡ is_sorted order es
 ascends-keys [] = refl
@@ -74,15 +75,15 @@ unfolding IsStrictlySortedBy
 strictly [] h = tt
 strictly (a ∷ []) h = (tt, tt)
 strictly (a ∷ b ∷ vs) h =
-    let low = is_less (order a b) (first (is_lt (order a b)) (ascends (b ∷ vs)) h) in
-    let rest = strictly (b ∷ vs) (second (is_lt (order a b)) (ascends (b ∷ vs)) h) in
+    let low = is_less (order a b) (first_true (is_lt (order a b)) (ascends (b ∷ vs)) h) in
+    let rest = strictly (b ∷ vs) (second_true (is_lt (order a b)) (ascends (b ∷ vs)) h) in
     ((low, all_above a b vs low rest.0), rest)
 
 next : (vs : List Val) → IsStrictlySortedBy order vs → ascends vs ≡ true
 unfolding IsStrictlySortedBy
 next [] h = refl
 next (a ∷ []) h = refl
-next (a ∷ b ∷ vs) h = also (is_lt (order a b)) (ascends (b ∷ vs)) (ap is_lt h.0.0) (next (b ∷ vs) h.1)
+next (a ∷ b ∷ vs) h = both_true (is_lt (order a b)) (ascends (b ∷ vs)) (ap is_lt h.0.0) (next (b ∷ vs) h.1)
 
 pub ascends_is_strict : (vs : List Val) → IsTrue (ascends vs) ↔ IsStrictlySortedBy order vs
 ascends_is_strict vs = (strictly vs, next vs)
@@ -129,11 +130,11 @@ record SoundSet (vs : List Val) : Type 0 where
 set_parts : (vs : List Val) → is_sound (variant.Set vs) ≡ true → SoundSet vs
 set_parts vs h =
     let is : is_sound_set vs ≡ true = sym (sound-set vs) ∙ h in
-    let front = first (is_countable vs && ascends vs) (list_all is_sound vs) is in
-    record { few = first (is_countable vs) (ascends vs) front; up = second (is_countable vs) (ascends vs) front; each = second (is_countable vs && ascends vs) (list_all is_sound vs) is }
+    let front = first_true (is_countable vs && ascends vs) (list_all is_sound vs) is in
+    record { few = first_true (is_countable vs) (ascends vs) front; up = second_true (is_countable vs) (ascends vs) front; each = second_true (is_countable vs && ascends vs) (list_all is_sound vs) is }
 
 set_of : (vs : List Val) → SoundSet vs → is_sound (variant.Set vs) ≡ true
-set_of vs s = sound-set vs ∙ also (is_countable vs && ascends vs) (list_all is_sound vs) (also (is_countable vs) (ascends vs) s.few s.up) s.each
+set_of vs s = sound-set vs ∙ both_true (is_countable vs && ascends vs) (list_all is_sound vs) (both_true (is_countable vs) (ascends vs) s.few s.up) s.each
 
 pub sound-with : (k : Val) (vs : List Val) → is_sound (variant.Set vs) ≡ true → is_sound k ≡ true → is_countable (with_key order k vs) ≡ true → is_sound (variant.Set (with_key order k vs)) ≡ true
 sound-with k vs h key few =
@@ -157,17 +158,17 @@ fits_item t v = fits v t
 pub typed-with : (t : Ty) (k : Val) (vs : List Val) → has_type (variant.Set vs) (kind.Set t) ≡ true → has_type k t ≡ true → is_countable (with_key order k vs) ≡ true →
     has_type (variant.Set (with_key order k vs)) (kind.Set t) ≡ true
 typed-with t k vs h key few =
-    let sound = first (is_sound (variant.Set vs)) (fits (variant.Set vs) (kind.Set t)) h in
-    let each : list_all (fits_item t) vs ≡ true = sym (fits-set vs t) ∙ second (is_sound (variant.Set vs)) (fits (variant.Set vs) (kind.Set t)) h in
-    also (is_sound (variant.Set (with_key order k vs))) (fits (variant.Set (with_key order k vs)) (kind.Set t))
-    (sound-with k vs sound (first (is_sound k) (fits k t) key) few)
-    (fits-set (with_key order k vs) t ∙ all-with order (fits_item t) k vs (second (is_sound k) (fits k t) key) each)
+    let sound = first_true (is_sound (variant.Set vs)) (fits (variant.Set vs) (kind.Set t)) h in
+    let each : list_all (fits_item t) vs ≡ true = sym (fits-set vs t) ∙ second_true (is_sound (variant.Set vs)) (fits (variant.Set vs) (kind.Set t)) h in
+    both_true (is_sound (variant.Set (with_key order k vs))) (fits (variant.Set (with_key order k vs)) (kind.Set t))
+    (sound-with k vs sound (first_true (is_sound k) (fits k t) key) few)
+    (fits-set (with_key order k vs) t ∙ all-with order (fits_item t) k vs (second_true (is_sound k) (fits k t) key) each)
 
 pub typed-without_key : (t : Ty) (k : Val) (vs : List Val) → has_type (variant.Set vs) (kind.Set t) ≡ true → has_type (variant.Set (without_key order k vs)) (kind.Set t) ≡ true
 typed-without_key t k vs h =
-    let sound = first (is_sound (variant.Set vs)) (fits (variant.Set vs) (kind.Set t)) h in
-    let each : list_all (fits_item t) vs ≡ true = sym (fits-set vs t) ∙ second (is_sound (variant.Set vs)) (fits (variant.Set vs) (kind.Set t)) h in
-    also (is_sound (variant.Set (without_key order k vs))) (fits (variant.Set (without_key order k vs)) (kind.Set t))
+    let sound = first_true (is_sound (variant.Set vs)) (fits (variant.Set vs) (kind.Set t)) h in
+    let each : list_all (fits_item t) vs ≡ true = sym (fits-set vs t) ∙ second_true (is_sound (variant.Set vs)) (fits (variant.Set vs) (kind.Set t)) h in
+    both_true (is_sound (variant.Set (without_key order k vs))) (fits (variant.Set (without_key order k vs)) (kind.Set t))
     (sound-without_key k vs sound)
     (fits-set (without_key order k vs) t ∙ all-filter (fits_item t) _ vs each)
 
@@ -221,17 +222,17 @@ record SoundMap (es : List (Val × Val)) : Type 0 where
 map_parts : (es : List (Val × Val)) → is_sound (variant.Map es) ≡ true → SoundMap es
 map_parts es h =
     let is : is_sound_map es ≡ true = sym (sound-map es) ∙ h in
-    let front = first (is_countable es && ascends (keys_of es)) (list_all is_sound (flat es)) is in
+    let front = first_true (is_countable es && ascends (keys_of es)) (list_all is_sound (flat es)) is in
     record {
-      few = first (is_countable es) (ascends (keys_of es)) front;
-      up = second (is_countable es) (ascends (keys_of es)) front;
-      each = sym (all-flat es) ∙ second (is_countable es && ascends (keys_of es)) (list_all is_sound (flat es)) is;
+      few = first_true (is_countable es) (ascends (keys_of es)) front;
+      up = second_true (is_countable es) (ascends (keys_of es)) front;
+      each = sym (all-flat es) ∙ second_true (is_countable es && ascends (keys_of es)) (list_all is_sound (flat es)) is;
     }
 
 map_of : (es : List (Val × Val)) → SoundMap es → is_sound (variant.Map es) ≡ true
 map_of es s =
-    sound-map es ∙ also (is_countable es && ascends (keys_of es)) (list_all is_sound (flat es))
-    (also (is_countable es) (ascends (keys_of es)) s.few s.up) (all-flat es ∙ s.each)
+    sound-map es ∙ both_true (is_countable es && ascends (keys_of es)) (list_all is_sound (flat es))
+    (both_true (is_countable es) (ascends (keys_of es)) s.few s.up) (all-flat es ∙ s.each)
 
 pub sound-put : (k v : Val) (es : List (Val × Val)) → is_sound (variant.Map es) ≡ true → is_sound k ≡ true → is_sound v ≡ true → is_countable (put order k v es) ≡ true →
     is_sound (variant.Map (put order k v es)) ≡ true
@@ -249,20 +250,20 @@ module _ (s t : Ty) where
   fits_both = both order (fits_item s) (fits_item t)
 
   entries_fit : (es : List (Val × Val)) → has_type (variant.Map es) (kind.Map s t) ≡ true → list_all fits_both es ≡ true
-  entries_fit es h = sym (fits-map es s t) ∙ second (is_sound (variant.Map es)) (fits (variant.Map es) (kind.Map s t)) h
+  entries_fit es h = sym (fits-map es s t) ∙ second_true (is_sound (variant.Map es)) (fits (variant.Map es) (kind.Map s t)) h
 
   typed_of : (es : List (Val × Val)) → is_sound (variant.Map es) ≡ true → list_all fits_both es ≡ true → has_type (variant.Map es) (kind.Map s t) ≡ true
-  typed_of es sound each = also (is_sound (variant.Map es)) (fits (variant.Map es) (kind.Map s t)) sound (fits-map es s t ∙ each)
+  typed_of es sound each = both_true (is_sound (variant.Map es)) (fits (variant.Map es) (kind.Map s t)) sound (fits-map es s t ∙ each)
 
   pub typed-put : (k v : Val) (es : List (Val × Val)) → has_type (variant.Map es) (kind.Map s t) ≡ true → has_type k s ≡ true → has_type v t ≡ true → is_countable (put order k v es) ≡ true →
       has_type (variant.Map (put order k v es)) (kind.Map s t) ≡ true
   typed-put k v es h key value few =
       typed_of (put order k v es)
-      (sound-put k v es (first (is_sound (variant.Map es)) (fits (variant.Map es) (kind.Map s t)) h) (first (is_sound k) (fits k s) key) (first (is_sound v) (fits v t) value) few)
-      (all-put order (fits_item s) (fits_item t) k v es (second (is_sound k) (fits k s) key) (second (is_sound v) (fits v t) value) (entries_fit es h))
+      (sound-put k v es (first_true (is_sound (variant.Map es)) (fits (variant.Map es) (kind.Map s t)) h) (first_true (is_sound k) (fits k s) key) (first_true (is_sound v) (fits v t) value) few)
+      (all-put order (fits_item s) (fits_item t) k v es (second_true (is_sound k) (fits k s) key) (second_true (is_sound v) (fits v t) value) (entries_fit es h))
 
   pub typed-without : (k : Val) (es : List (Val × Val)) → has_type (variant.Map es) (kind.Map s t) ≡ true → has_type (variant.Map (without order k es)) (kind.Map s t) ≡ true
   typed-without k es h =
       typed_of (without order k es)
-      (sound-without k es (first (is_sound (variant.Map es)) (fits (variant.Map es) (kind.Map s t)) h))
+      (sound-without k es (first_true (is_sound (variant.Map es)) (fits (variant.Map es) (kind.Map s t)) h))
       (all-filter fits_both _ es (entries_fit es h))

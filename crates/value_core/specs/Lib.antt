@@ -8,6 +8,7 @@ pub mod Order
 pub mod Everywhere
 pub mod Lawful
 pub mod Sound
+pub mod Lasts
 pub mod Sorted
 pub mod Places
 pub mod Kinds

@@ -136,7 +136,8 @@ fn name_is_lawful(name: &Name)
 }
 
 fn emit_is_lawful(emit: &Emit)
-    ensures { IsTrue (is_lawful_address emit.now.dest && is_name emit.now.entry && nat_lt emit.now.amount (2 ^ 64)) }
+    ensures { IsTrue (is_lawful_address emit.now.dest && is_name emit.now.entry
+        && nat_lt emit.now.amount (2 ^ 64)) }
 {
     address_is_lawful(&emit.dest);
     name_is_lawful(&emit.entry);

@@ -90,6 +90,8 @@ fn entries_fit(entries: &[(Val, Val)], k: &Ty, v: &Ty) -> bool
 
 /// A value of a passable type is plain, and a plain value is no deeper than its type.
 pub fn typed_values_are_plain()
-    ensures plain { (v : Val) (t : Ty) → IsTrue (has_type v t) → IsTrue (is_passable t) → IsTrue (is_plain v) }
-    ensures depth { (v : Val) (t : Ty) → IsTrue (is_plain v) → IsTrue (fits v t) → depth_of v ≤ depth_of_type t }
+    ensures plain { (v : Val) (t : Ty) →
+        IsTrue (has_type v t) → IsTrue (is_passable t) → IsTrue (is_plain v) }
+    ensures depth { (v : Val) (t : Ty) →
+        IsTrue (is_plain v) → IsTrue (fits v t) → depth_of v ≤ depth_of_type t }
 {}

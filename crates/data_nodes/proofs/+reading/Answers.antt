@@ -2,8 +2,8 @@
 use Rattle.std.proofs.Common.{◌≡◌, ◌∙◌, ◌<◌, Ok, ap, arith, rules, sym, true, None, map}
 use Rattle.value_core.specs.declared.ty.Ty.{Ty, size-Ty}
 use Rattle.value_core.specs.declared.ty.Ty.TheViews.{the_lemmas}
-use Rattle.data_nodes.specs.LastRead.{last_item, last_key}
-use Rattle.data_nodes.specs.Readers.{ascending, comb, entries, is_above}
+use Rattle.value_core.specs.Lasts.{is_above, last_item, last_key}
+use Rattle.data_nodes.specs.Readers.{ascending, comb, entries}
 use Rattle.data_nodes.specs.Faults.{reader, storage_read}
 use Rattle.data_nodes.proofs.Combs.{behind_firsts, comb_turn, others}
 use Rattle.data_nodes.proofs.NodeLevels.{entry_prim, read_prim, read_seq}

@@ -1,7 +1,7 @@
 -- The readers go down the type; what a loop has read stands before what is left.
 use Rattle.std.proofs.Common.{◌≡◌, ◌≤◌, ◌+◌, ◌-◌, ◌*◌, None, drop, length, map, max}
 use Rattle.value_core.specs.declared.ty.Ty.{size-Ty}
-use Rattle.data_nodes.specs.LastRead.{last_item, last_key}
+use Rattle.value_core.specs.Lasts.{last_item, last_key}
 use Rattle.data_nodes.specs.Readers.{ascending, comb, entries, items}
 use Rattle.data_nodes.specs.Faults.{reader}
 use Rattle.data_nodes.proofs.Combs.{behind_firsts}

@@ -1,8 +1,8 @@
 -- Each loop's turn, and the reader at its tag.
 use Rattle.std.proofs.Common.{◌≡◌, sym, ◌∙◌, true, None}
 use Rattle.byte_fields.specs.Readers.{many}
-use Rattle.value_codec.specs.Lasts.{last_item, last_key}
-use Rattle.value_codec.specs.Reading.{value, ascending, entries, is_above}
+use Rattle.value_core.specs.Lasts.{is_above, last_item, last_key}
+use Rattle.value_codec.specs.Reading.{value, ascending, entries}
 use Rattle.value_codec.proofs.Turns.{one_more, one_above, one_entry, value_is}
 use Rattle.value_codec.proofs.reader.+reading.Goals as goal
 

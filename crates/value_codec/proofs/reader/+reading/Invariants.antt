@@ -2,7 +2,7 @@
 use Rattle.std.proofs.Common.{◌≡◌, ◌+◌, ◌-◌, ◌*◌, None}
 use Rattle.byte_fields.specs.Readers.{many}
 use Rattle.byte_fields.proofs.Loops.{with_front}
-use Rattle.value_codec.specs.Lasts.{last_item, last_key}
+use Rattle.value_core.specs.Lasts.{last_item, last_key}
 use Rattle.value_codec.specs.Reading.{value, ascending, entries}
 use Rattle.value_codec.proofs.reader.+reading.Given as goal
 

@@ -4,7 +4,7 @@ use Rattle.std.specs.Prelude.{slice_get}
 use Rattle.std.specs.Option.{option_map}
 use Rattle.std.proofs.lemmas.List.{length-append}
 use Rattle.value_core.specs.declared.val.Val.{Val}
-use Rattle.value_codec.specs.Lasts.{last_item, last_key}
+use Rattle.value_core.specs.Lasts.{last_item, last_key}
 
 last_of_more : {A : Type 0} (front : List A) (a : A) → slice_get (front ++ a ∷ []) (length front) ≡ Some a
 last_of_more [] a = refl
