@@ -7,14 +7,14 @@ use Rattle.block_cli.specs.Commands.{FileName, Command, reads}
 use Rattle.block_cli.specs.Report.{bad_input_line}
 use Rattle.block_cli.specs.Answer.{File, Answer, held_after, too_long}
 use Rattle.block_cli.specs.Inputs.{StopsAtLong}
-use Rattle.block_cli.specs.Seen.{Seen, SameFiles, Written, StopsWriting, Prints}
+use Rattle.block_cli.specs.Seen.{Seen, SameFiles, AreWritten, StopsWriting, Prints}
 use Rattle.block_cli.specs.Runs.{Answered, Performs, Tells}
 use Rattle.block_cli.specs.Inside.{Delivers}
 use Rattle.block_cli.specs.declared.status.Status.{Status}
 use Rattle.block_cli.specs.declared.status.Status.TheVariants.{Done, Refused, Usage, ReadFault, WriteFault, NoMemory, BadInput}
 use Rattle.block_cli.proofs.FileLists.{earlier}
 
-written_since : (files : List File) (old mid new : Outside) → mid.told ≡ old.told → Written files mid new → Written files old new
+written_since : (files : List File) (old mid new : Outside) → mid.told ≡ old.told → AreWritten files mid new → AreWritten files old new
 written_since files old mid new same written = subst (λ (told : Option Held). IfSome told (λ held. new.told ≡ Some (held_after held files))) same written
 
 stopped_since : (files : List File) (name : FileName) (old mid new : Outside) → GoesOn old mid → mid.told ≡ old.told → StopsWriting files name mid new → StopsWriting files name old new

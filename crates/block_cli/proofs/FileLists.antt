@@ -17,7 +17,7 @@ use Rattle.edge_io.specs.declared.files.Failed.{Failed}
 use Rattle.block_cli.specs.Commands.{FileName}
 use Rattle.block_cli.specs.declared.answer.File.{File as Made}
 use Rattle.block_cli.specs.Answer.{File, first_too_long, held_after}
-use Rattle.block_cli.specs.Seen.{Written, StopsWriting}
+use Rattle.block_cli.specs.Seen.{AreWritten, StopsWriting}
 use Rattle.block_cli.specs.Inputs.{AreRead, Reaches, StopsAtLong, StopsAtFault}
 use Rattle.block_cli.specs.Inside.{bytes_in, file_in, files_in, HaveRoom}
 
@@ -158,7 +158,7 @@ same_told : (told : Option Held) → IfSome told (λ held. told ≡ Some held)
 same_told None = tt
 same_told (Some held) = refl
 
-pub nothing_written : (old : Outside) → Written [] old old
+pub nothing_written : (old : Outside) → AreWritten [] old old
 nothing_written old = same_told old.told
 
 after_one_more : (old mid new : Option Held) (before : List File) (file : File) → IfSome old (λ held. mid ≡ Some (held_after held before)) → IfSome mid (λ held. new ≡ Some (insert held file.0 file.1)) → IfSome old (λ held. new ≡ Some (held_after held (before ++ file ∷ [])))
@@ -167,7 +167,7 @@ after_one_more (Some held) mid new before file so_far now_is =
     let now : new ≡ Some (insert (held_after held before) file.0 file.1) = subst (λ (o : Option Held). IfSome o (λ h. new ≡ Some (insert h file.0 file.1))) so_far now_is in
     now ∙ ap (λ (h : Held). Some h) (sym (held_after-push held before file))
 
-pub written_more : (before : List File) (file : File) (old mid new : Outside) → Written before old mid → WritesFile mid file.0 file.1 (Ok tt) new → Written (before ++ file ∷ []) old new
+pub written_more : (before : List File) (file : File) (old mid new : Outside) → AreWritten before old mid → WritesFile mid file.0 file.1 (Ok tt) new → AreWritten (before ++ file ∷ []) old new
 written_more before file old mid new so_far w = after_one_more old.told mid.told new.told before file so_far w.written
 
 others_by : (new : Option Held) (held : Held) (name : FileName) → is_some new ≡ true → IfSome new (λ now. (q : FileName) → q ≢ name → get now q ≡ get held q) → IsSomeAnd new (λ now. (q : FileName) → q ≢ name → get now q ≡ get held q)
@@ -181,7 +181,7 @@ others_after (Some held) mid new before name so_far tells others =
     others_by new (held_after held before) name (tells ∙ ap is_some so_far)
     (subst (λ (o : Option Held). IfSome o (λ h. IfSome new (λ now. (q : FileName) → q ≢ name → get now q ≡ get h q))) so_far others)
 
-pub stops_writing : (before after files : List File) (file : File) (old mid new : Outside) (e : Failed) → files ≡ before ++ file ∷ after → GoesOn old mid → Written before old mid → WritesFile mid file.0 file.1 (Err e) new → StopsWriting files file.0 old new
+pub stops_writing : (before after files : List File) (file : File) (old mid new : Outside) (e : Failed) → files ≡ before ++ file ∷ after → GoesOn old mid → AreWritten before old mid → WritesFile mid file.0 file.1 (Err e) new → StopsWriting files file.0 old new
 stops_writing before after files file old mid new e order goes so_far w = record {
   before = before;
   bytes = file.1;
@@ -219,15 +219,15 @@ module _ (items : List Made) (i : ℕ) (x : Made) (lt : i < length items) (is : 
       (subst (λ (b : List ℕ). HasRoom old x.name.now (length b)) (sym same)
       (subst (λ (f : File). HasRoom old f.0 (length f.1)) (sym stands) (room i (file_in x) within)))
 
-  module _ (bytes : List ℕ) (same : bytes ≡ x.bytes.items) (old mid new : Outside) (goes : GoesOn old mid) (so_far : Written (take i (files_in items)) old mid) where
+  module _ (bytes : List ℕ) (same : bytes ≡ x.bytes.items) (old mid new : Outside) (goes : GoesOn old mid) (so_far : AreWritten (take i (files_in items)) old mid) where
     pub stop_step : (r : Result Unit Failed) → is_err r ≡ true → WritesFile mid x.name.now bytes r new → StopsWriting (files_in items) x.name.now old new
     stop_step (Ok u) failed w = absurd cc
     stop_step (Err e) failed w =
         stops_writing (take i (files_in items)) (drop (suc i) (files_in items)) (files_in items) (file_in x) old mid new e (split_at (files_in items) i (file_in x) within stands) goes so_far
         (subst (λ (b : List ℕ). WritesFile mid x.name.now b (Err e) new) same w)
 
-    pub write_step : (r : Result Unit Failed) → is_err r ≡ false → WritesFile mid x.name.now bytes r new → Written (take (i + 1) (files_in items)) old new
+    pub write_step : (r : Result Unit Failed) → is_err r ≡ false → WritesFile mid x.name.now bytes r new → AreWritten (take (i + 1) (files_in items)) old new
     write_step (Err e) written w = absurd cc
     write_step (Ok u) written w =
-        subst (λ (fs : List File). Written fs old new) (sym next)
+        subst (λ (fs : List File). AreWritten fs old new) (sym next)
         (written_more (take i (files_in items)) (file_in x) old mid new so_far (subst (λ (b : List ℕ). WritesFile mid x.name.now b (Ok tt) new) same w))

@@ -15,7 +15,7 @@ use Rattle.block_cli.specs.Commands.{FileName, Command, Validate}
 use Rattle.block_cli.specs.Report.{cannot_write_line}
 use Rattle.block_cli.specs.Answer.{File, Answer, done}
 use Rattle.block_cli.specs.Inputs.{AreRead, StopsAtLong, StopsAtFault}
-use Rattle.block_cli.specs.Seen.{Seen, SameFiles, Written, StopsWriting, Prints, PrintsAll}
+use Rattle.block_cli.specs.Seen.{Seen, SameFiles, AreWritten, StopsWriting, Prints, PrintsAll}
 use Rattle.block_cli.specs.Runs.{GivesUp}
 
 -- ---- values as contracts see them
@@ -61,7 +61,7 @@ HaveRoom files seen = All (λ file. HasRoom seen file.0 (length file.1)) files
 
 -- what writing files in order comes to: all are written, or the first that couldn't be is named
 abbrev pub WritesAll : List File → Outside → Option FileName → Outside → Type 0
-WritesAll files old None new = Written files old new
+WritesAll files old None new = AreWritten files old new
 WritesAll files old (Some name) new = StopsWriting files name old new
 
 -- so much of a text was printed
@@ -82,13 +82,13 @@ pub record PrintsOnly (answer : Answer) (status : Status) (old new : Seen) : Typ
 -- it is written and printed
 pub record Saves (answer : Answer) (old new : Seen) : Type 0 where
   pub is : answer.status ≡ Done
-  pub written : Written answer.written old.files new.files
+  pub written : AreWritten answer.written old.files new.files
   pub printed : PrintsAll old.sink answer.text new.sink
 
 -- it is written, and not all of it printed
 pub record SavesUntold (answer : Answer) (old new : Seen) : Type 0 where
   pub is : answer.status ≡ Done
-  pub written : Written answer.written old.files new.files
+  pub written : AreWritten answer.written old.files new.files
   pub rose : Rose old.sink.faults new.sink.faults
   pub printed : Prints old.sink answer.text new.sink
 

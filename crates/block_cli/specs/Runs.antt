@@ -6,7 +6,7 @@ use Rattle.block_cli.specs.Report.{usage_line, cannot_read_line, cannot_write_li
 use Rattle.block_cli.specs.Answer.{Answer, limited, too_long}
 use Rattle.block_cli.specs.Meaning.{Means}
 use Rattle.block_cli.specs.Inputs.{AreRead, StopsAtLong, StopsAtFault}
-use Rattle.block_cli.specs.Seen.{Seen, SameFiles, Written, StopsWriting, Prints, PrintsAll}
+use Rattle.block_cli.specs.Seen.{Seen, SameFiles, AreWritten, StopsWriting, Prints, PrintsAll}
 use Rattle.block_cli.specs.Statuses.{exit_number}
 use Rattle.block_cli.specs.declared.status.Status.{Status}
 use Rattle.block_cli.specs.declared.status.Status.TheVariants.{Done, Refused, Usage, ReadFault, WriteFault, NoMemory, BadInput}
@@ -34,7 +34,7 @@ pub record Finishes (c : Command) (old new : Seen) : Type 0 where
   pub answer : Answer
   pub answered : Answered c answer old.files new.files
   pub status : answer.status ≡ Done
-  pub written : Written answer.written old.files new.files
+  pub written : AreWritten answer.written old.files new.files
   pub printed : PrintsAll old.sink answer.text new.sink
 
 -- 1 and 6: the answer is printed, and nothing is written
@@ -72,7 +72,7 @@ pub record FailsToPrint (c : Command) (old new : Seen) : Type 0 where
   pub answer : Answer
   pub answered : Answered c answer old.files new.files
   pub status : answer.status ≡ Done
-  pub written : Written answer.written old.files new.files
+  pub written : AreWritten answer.written old.files new.files
   pub rose : Rose old.sink.faults new.sink.faults
   pub printed : Prints old.sink answer.text new.sink
 
@@ -111,5 +111,5 @@ abbrev pub Starts : Seen → Status → Seen → Type 0
 Starts old status new = EndsEarly old status new ⊎ ((words : List (List ℕ)) × Runs words old status new)
 
 -- the number that the process ends with is that of the status of its run
-abbrev pub EndsWith : Seen → ℕ → Seen → Type 0
-EndsWith old number new = (status : Status) × (number ≡ exit_number status) × Starts old status new
+abbrev pub ExitsWith : Seen → ℕ → Seen → Type 0
+ExitsWith old number new = (status : Status) × (number ≡ exit_number status) × Starts old status new

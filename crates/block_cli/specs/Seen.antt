@@ -18,8 +18,8 @@ abbrev pub SameFiles : Outside → Outside → Type 0
 SameFiles old new = new.told ≡ old.told
 
 -- these files hold what was written, all others what they held
-abbrev pub Written : List File → Outside → Outside → Type 0
-Written files old new = IfSome old.told (λ held. new.told ≡ Some (held_after held files))
+abbrev pub AreWritten : List File → Outside → Outside → Type 0
+AreWritten files old new = IfSome old.told (λ held. new.told ≡ Some (held_after held files))
 
 -- of these files one couldn't be written: those before it are written, and all others hold what they held
 pub record StopsWriting (files : List File) (name : FileName) (old new : Outside) : Type 0 where

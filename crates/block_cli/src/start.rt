@@ -1,7 +1,7 @@
 //! A run of the program, from the words of its process on.
 ghost use Rattle.block_cli.specs.Seen.{seen_of};
 ghost use Rattle.std.specs.Process.{exit_status};
-ghost use Rattle.block_cli.specs.Runs.{EndsWith, Starts};
+ghost use Rattle.block_cli.specs.Runs.{ExitsWith, Starts};
 
 use crate::report;
 use crate::run::run;
@@ -44,7 +44,7 @@ pub fn start<R: AllocGlobal + Env, F: Files, K: Sink>(
     files: &mut F,
     out: &mut K,
 ) -> ExitCode
-    ensures { EndsWith (seen_of (F.seen files.old) (K.seen out.old)) (exit_status result)
+    ensures { ExitsWith (seen_of (F.seen files.old) (K.seen out.old)) (exit_status result)
         (seen_of (F.seen files.new) (K.seen out.new)) }
 {
     run_words(rt, files, out).exit_code()

@@ -13,6 +13,7 @@ pub mod FaultLaws
 pub mod FaultOnce
 pub mod Throughout
 pub mod ScriptLaws
+mod WeightBounds
 pub mod InversionLaws
 pub mod Deciding
 pub mod DecidedLines

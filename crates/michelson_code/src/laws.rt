@@ -1,6 +1,6 @@
 //! What is true of the table of forms, of weights and counts, and of entries.
 
-ghost use Rattle.std.specs.Prelude.{◌≡◌, ◌+◌, ◌++◌, IsTrue, List, Some, sum_by};
+ghost use Rattle.std.specs.Prelude.{◌≡◌, ◌≤◌, ◌+◌, ◌*◌, ◌++◌, IsTrue, List, Some, sum_by};
 ghost use Rattle.value_core.specs.declared.ty.Ty.{Ty};
 ghost use Rattle.value_core.specs.declared.val.Val.{Val};
 ghost use Rattle.value_core.specs.Typed.{has_type};
@@ -24,6 +24,11 @@ pub fn an_instruction_weighs_and_counts_its_bodies()
 pub fn codes_one_after_another_add_up()
     ensures weight { (c d : List Instr) → code_weight (c ++ d) ≡ code_weight c + code_weight d }
     ensures count { (c d : List Instr) → code_count (c ++ d) ≡ code_count c + code_count d }
+{}
+
+/// No instruction costs more than 10, so that a code weighs at most ten times its count.
+pub fn a_code_weighs_at_most_ten_times_its_count()
+    ensures { (c : List Instr) → code_weight c ≤ 10 * code_count c }
 {}
 
 /// A param in the Lefts and Rights of a way has the type that the way begins at.

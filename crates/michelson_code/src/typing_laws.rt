@@ -1,6 +1,6 @@
 //! What is true of typing and of the first fault of a script.
 
-ghost use Rattle.std.specs.Prelude.{◌≡◌, ◌++◌, ◌∷◌, ◌⊎◌, List, ℕ};
+ghost use Rattle.std.specs.Prelude.{◌≡◌, ◌≤◌, ◌++◌, ◌∷◌, ◌⊎◌, List, ℕ};
 ghost use Rattle.value_core.specs.declared.ty.Ty.{Ty};
 ghost use Rattle.michelson_code.specs.declared.instr.Instr.{Instr};
 ghost use Rattle.michelson_code.specs.declared.instr.Instr.TheViews.{out-Instr};
@@ -11,6 +11,7 @@ ghost use Rattle.michelson_code.specs.Inversion.{Finds};
 ghost use Rattle.michelson_code.specs.Printable.{IsPrintableScript};
 ghost use Rattle.michelson_code.specs.TypedScript.{IsTypedScript, counter};
 ghost use Rattle.michelson_code.specs.Typing.{Applies, CodeTyped, InstrTyped, MayBegin, Outcome, To};
+ghost use Rattle.michelson_code.specs.Weight.{code_count};
 
 /// On a stack, an instruction without bodies leaves one stack at most.
 pub fn an_instruction_leaves_one_stack()
@@ -36,6 +37,11 @@ pub fn what_follows_a_code_begins_where_it_ends()
 /// A typed script is one whose text is read again as it.
 pub fn a_typed_script_is_read_again()
     ensures { (s : Script) → IsTypedScript s → IsPrintableScript s }
+{}
+
+/// A typed script has at most 65,536 instructions.
+pub fn a_typed_script_is_short()
+    ensures { (s : Script) → IsTypedScript s → code_count s.code ≤ 65536 }
 {}
 
 /// A script that is typed has no fault.
