@@ -1,4 +1,5 @@
 -- what the public contracts rest on
 pub mod Spelling
 pub mod Reading
+
 -- what functions inside promise each other
