@@ -1,4 +1,4 @@
--- Whether an instruction with bodies may begin, and how it ends where its bodies are typed, is decided.
+-- Whether an instruction with bodies may begin is decided.
 use Rattle.std.proofs.Common.{◌≡◌, ℕ, ◌<◌, Bool, true, false, List, [], ◌∷◌, ◌++◌, length, inl, inr, refl, ap, sym, subst, ◌∙◌, arith}
 use Rattle.std.specs.Prelude.{◌⊎◌, ◌==◌, ◌||◌}
 use Rattle.value_core.specs.declared.ty.Ty.{Ty}

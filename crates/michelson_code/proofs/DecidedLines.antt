@@ -1,4 +1,4 @@
--- Whether an instruction without bodies finds its operands, and whether one with bodies may begin, is decided.
+-- Whether an instruction without bodies finds its operands is decided.
 use Rattle.std.proofs.Common.{◌≡◌, ℕ, zero, suc, ◌<◌, Bool, true, false, List, [], ◌∷◌, ◌++◌, length, map, Option, None, Some, inl, inr, refl, ap, sym, subst, ◌∙◌, arith}
 use Rattle.std.specs.Prelude.{◌⊎◌, IsTrue}
 use Rattle.value_core.specs.declared.ty.Ty.{Ty}

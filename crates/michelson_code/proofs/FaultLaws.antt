@@ -99,7 +99,7 @@ module _ {A : Type 0} where
   writes_none x b st es o (map_map c k v r u) = refl
   writes_none x b st es o (failwith a u may) = refl
 
-  no_failing : (x : Instr-F A) (b : List Ty) (st : List Start) (es fs : List Outcome) (o : Outcome) → Runs x b st es o → FailsInside x fs → es ≡ fs → ⊥
+  pub no_failing : (x : Instr-F A) (b : List Ty) (st : List Start) (es fs : List Outcome) (o : Outcome) → Runs x b st es o → FailsInside x fs → es ≡ fs → ⊥
   no_failing x b st es fs o (dip c a u v) (in_dip c') same = failing_end v same
   no_failing x b st es fs o (dip_n n c items u v long) (in_dip_n n' c') same = failing_end v same
   no_failing x b st es fs o (map_list c a r u) (in_map c') same = failing_end (r ∷ u) same

@@ -16,15 +16,18 @@ use Rattle.michelson_code.proofs.OutcomeLaws.{code_once, left_by, lines_or_bodie
 
 -- ---- the first kind
 
-pub every_kind : List TypeKind
+abbrev pub every_kind : List TypeKind
 every_kind =
     kind.StackTooShort ∷ kind.WrongType ∷ kind.BranchesDiffer ∷ kind.NotComparable ∷ kind.BigMapPlace ∷ kind.EntryTwice ∷
     kind.FailNotLast ∷ kind.StackTooTall ∷ kind.TypeTooLarge ∷ kind.CodeTooLarge ∷ kind.LastStack ∷ []
 
-pub kind_of_number : (k : TypeKind) → get_or every_kind (kind_number k) kind.LastStack ≡ k
-unfolding every_kind
+kind_of_number : (k : TypeKind) → get_or every_kind (kind_number k) kind.LastStack ≡ k
 kind_of_number kind.StackTooShort = refl
 kind_of_number _ = refl
+
+-- two kinds of one number are one
+pub same_number : (k j : TypeKind) → kind_number k ≡ kind_number j → k ≡ j
+same_number k j same = sym (kind_of_number k) ∙ ap (λ (n : ℕ). get_or every_kind n kind.LastStack) same ∙ kind_of_number j
 
 pub data Order (m n : ℕ) : Type 0 where
   is_below : m < n → Order m n
@@ -46,7 +49,7 @@ module _ (Holds : TypeKind → Type 0) (k j : TypeKind) where
   first_by : IsFirst Holds k → IsFirst Holds j → Order (kind_number k) (kind_number j) → k ≡ j
   first_by one two (is_below h) = absurd (two.none_before k h one.holds)
   first_by one two (is_above h) = absurd (one.none_before j h two.holds)
-  first_by one two (is_same h) = sym (kind_of_number k) ∙ ap (λ (n : ℕ). get_or every_kind n kind.LastStack) h ∙ kind_of_number j
+  first_by one two (is_same h) = same_number k j h
 
   -- there is one first kind
   pub first_once : IsFirst Holds k → IsFirst Holds j → k ≡ j

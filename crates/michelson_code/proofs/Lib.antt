@@ -19,3 +19,10 @@ pub mod Deciding
 pub mod DecidedLines
 pub mod CounterTyped
 pub mod DecidedBodies
+pub mod DecidedEnds
+pub mod FirstKind
+pub mod DecidedCounts
+pub mod KeptStacks
+pub mod DecidedInstr
+pub mod DecidedCode
+pub mod DecidedScript

@@ -1,4 +1,4 @@
--- Tests of each level of a type, at one level; and what passable types pass.
+-- Tests of each level of a type, at one level; which of them passable types pass, and that such types are passable.
 use Rattle.std.proofs.Common.{◌≡◌, Bool, true, false, List, [], ◌∷◌, refl, ap, sym, ◌∙◌}
 use Rattle.std.specs.Prelude.{◌&&◌}
 use Rattle.std.proofs.lemmas.Bool.{and_from, and_parts}
@@ -115,3 +115,32 @@ passable_is_kept = passable_passes is_kept_here kept_unbarred
 
 pub passable_is_free : (t : Ty) → is_passable t ≡ true → is_free_of_big_maps t ≡ true
 passable_is_free = passable_passes is_no_big_map_type free_unbarred
+
+-- ---- and back
+
+abbrev IsFreeAndKept : Ty → Type 0
+IsFreeAndKept t = is_kept t ≡ true → is_free_of_big_maps t ≡ true → is_passable t ≡ true
+
+passable_by : (x : Ty-F Ty) → Each IsFreeAndKept (types_in x) →
+    (is_kept_here x && parts_pass (map-Ty Ty Judged (judged is_kept_here) x)) ≡ true →
+    (is_no_big_map_type x && parts_pass (map-Ty Ty Judged (judged is_no_big_map_type) x)) ≡ true → passable_level (map-Ty Ty Bool is_passable x) ≡ true
+passable_by (ty.Option t) each kept free = each.0 kept free
+passable_by (ty.Or s t) each kept free =
+    let k = and_parts _ _ kept in let f = and_parts _ _ free in and_from _ _ (each.0 k.0 f.0) (each.1.0 k.1 f.1)
+passable_by (ty.Pair s t) each kept free =
+    let k = and_parts _ _ kept in let f = and_parts _ _ free in and_from _ _ (each.0 k.0 f.0) (each.1.0 k.1 f.1)
+passable_by (ty.List t) each kept free = each.0 kept free
+passable_by (ty.Set t) each kept free = each.0 kept free
+passable_by (ty.Map s t) each kept free =
+    let k = and_parts _ _ kept in let f = and_parts _ _ free in and_from _ _ (each.0 k.0 f.0) (each.1.0 k.1 f.1)
+passable_by (ty.BigMap s t) each kept free = cc
+passable_by (ty.Contract t) each kept free = cc
+passable_by ty.Operation each kept free = cc
+passable_by ty.Unit each kept free = refl
+passable_by _ each kept free = refl
+
+-- a type that may be kept and in which no big map stands is passable
+pub kept_is_passable : (t : Ty) → is_kept t ≡ true → is_free_of_big_maps t ≡ true → is_passable t ≡ true
+kept_is_passable = induction IsFreeAndKept (λ t each kept free.
+    fold_out-Ty Bool passable_level t
+    ∙ passable_by (out-Ty t) each (sym (throughout-level is_kept_here t) ∙ kept) (sym (throughout-level is_no_big_map_type t) ∙ free))

@@ -69,6 +69,12 @@ pub fn operands_are_found_or_not()
     ensures bodies { (i : Instr) (b : List Ty) → MayBegin i b ⊎ ¬ MayBegin i b }
 {}
 
+/// Every script is typed or has a fault.
+pub fn a_script_is_typed_or_has_a_fault()
+    ensures { (s : Script) → IsTypedScript s ⊎
+        ((path : List ℕ) × ((k : TypeKind) × ScriptFault s path k)) }
+{}
+
 /// The counter is typed.
 pub fn the_counter_is_typed()
     ensures { IsTypedScript counter }
