@@ -167,6 +167,11 @@ fn a_fault_is_told_at_the_first_byte_of_its_field(rt: HostRuntime) -> Result<(),
         let fault = told(rt.alloc(), at, field)?;
         assert_eq!(rt; fault, Some(FormatFault::At(At(place))), "{case}");
     }
+    Ok(())
+}
+
+#[test]
+fn a_file_cut_by_one_byte_is_refused_at_its_last_amount(rt: HostRuntime) -> Result<(), Fail> {
     let mut file = file(rt.alloc())?;
     file.pop();
     assert_eq!(rt; file.len(), END - 1);
