@@ -13,8 +13,8 @@ use Rattle.micheline_text.specs.declared.text.Ending.TheVariants as ending
 use Rattle.micheline_text.specs.declared.token.Token.{Token}
 use Rattle.micheline_text.specs.declared.token.Token.TheVariants as token
 use Rattle.micheline_text.specs.Gaps.{gap_from}
-use Rattle.micheline_text.specs.Literals.{decimal_value}
-use Rattle.micheline_text.specs.Lexing.{front_token, is_faulty, token_at, tokens_of, quoted, Quoted, text_by}
+use Rattle.micheline_text.specs.Literals.{decimal_value, quoted, Quoted}
+use Rattle.micheline_text.specs.Lexing.{front_token, is_faulty, token_at, tokens_of, text_by}
 use Rattle.micheline_text.specs.Layout.{IsGap, IsSpelled, IsLaidOut}
 use Rattle.micheline_text.specs.Cuts.{IsUnfit, IsOpenText, BeginsNothing, Stands, IsCutInto}
 use Rattle.micheline_text.specs.Printed.{escaped}

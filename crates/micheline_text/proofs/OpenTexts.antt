@@ -7,7 +7,7 @@ use Rattle.std.proofs.lemmas.Bool.{eqb-true}
 use Rattle.std.proofs.lemmas.List.Concat.{flat_map-cons}
 use Rattle.micheline_text.specs.declared.text.Ending.TheVariants as ending
 use Rattle.micheline_text.specs.Kinds.{is_plain}
-use Rattle.micheline_text.specs.Lexing.{quoted, Quoted, said, one_more}
+use Rattle.micheline_text.specs.Literals.{quoted, Quoted, said, one_more}
 use Rattle.micheline_text.specs.Printed.{escaped}
 
 -- ---- bytes behind a quote, up to the end

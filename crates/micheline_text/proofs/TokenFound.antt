@@ -11,8 +11,8 @@ use Rattle.micheline_text.specs.declared.text.Ending.TheVariants as ending
 use Rattle.micheline_text.specs.declared.token.Token.{Token}
 use Rattle.micheline_text.specs.declared.token.Token.TheVariants as token
 use Rattle.micheline_text.specs.Kinds.{is_digit, is_letter, is_word_byte, is_note_byte, is_hex, begins_note, is_plain}
-use Rattle.micheline_text.specs.Lexing.{front_token, word_at, note_at, minus_at, digits_at, begins_hex, number_token, bytes_token, quoted, Quoted, said, one_more, text_at, text_by, mark}
-use Rattle.micheline_text.specs.Literals.{signed, decimal_value, unhex}
+use Rattle.micheline_text.specs.Lexing.{front_token, word_at, note_at, minus_at, digits_at, begins_hex, number_token, bytes_token, text_at, text_by, mark}
+use Rattle.micheline_text.specs.Literals.{signed, decimal_value, unhex, quoted, Quoted, said, one_more}
 use Rattle.micheline_text.specs.Layout.{AllAre, Stops, IsNumeral, IsSpelled, sign}
 use Rattle.micheline_text.specs.Cuts.{IsUnfit}
 use Rattle.micheline_text.specs.Printed.{escaped}

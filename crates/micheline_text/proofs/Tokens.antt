@@ -14,8 +14,8 @@ use Rattle.micheline_text.specs.declared.token.Token.{Token}
 use Rattle.micheline_text.specs.declared.token.Token.TheVariants as token
 use Rattle.micheline_text.specs.Kinds.{is_digit, is_letter, is_word_byte, is_note_byte, is_hex, begins_note, is_blank, is_plain}
 use Rattle.micheline_text.specs.Gaps.{gap_from}
-use Rattle.micheline_text.specs.Lexing.{front_token, word_at, note_at, digits_at, begins_hex, number_token, numeral, bytes_token, quoted, Quoted, text_by}
-use Rattle.micheline_text.specs.Literals.{signed, decimal_value, unhex}
+use Rattle.micheline_text.specs.Lexing.{front_token, word_at, note_at, digits_at, begins_hex, number_token, numeral, bytes_token, text_by}
+use Rattle.micheline_text.specs.Literals.{signed, decimal_value, unhex, quoted, Quoted}
 use Rattle.micheline_text.specs.Layout.{AllAre, Stops, IsNumeral, IsSpelled}
 use Rattle.micheline_text.specs.Printed.{escaped}
 use Rattle.micheline_text.proofs.Laid.{run_stops, letter_is, note_is, digit_is}

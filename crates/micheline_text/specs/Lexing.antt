@@ -2,13 +2,11 @@
 use Rattle.std.specs.Prelude.{ℕ, zero, suc, ◌+◌, ◌-◌, ◌%◌, ◌^◌, Bool, true, false, List, [], ◌∷◌, length, take, drop, nat_lt, nat_le, ◌==◌, ◌&&◌, ◌||◌, if◌then◌else◌, slice_index, None}
 use Rattle.std.specs.List.{prefix_len}
 use Rattle.value_core.specs.Leaves.{is_text, is_blob}
-use Rattle.micheline_text.specs.Kinds.{is_digit, is_letter, is_word_byte, is_note_byte, is_hex, begins_note, is_plain}
+use Rattle.micheline_text.specs.Kinds.{is_digit, is_letter, is_word_byte, is_note_byte, is_hex, begins_note}
 use Rattle.micheline_text.specs.Gaps.{gap_from}
-use Rattle.micheline_text.specs.Literals.{decimal_value, signed, unhex}
+use Rattle.micheline_text.specs.Literals.{decimal_value, signed, unhex, quoted}
 use Rattle.micheline_text.specs.declared.token.Token.{Token}
 use Rattle.micheline_text.specs.declared.token.Token.TheVariants as token
-use Rattle.micheline_text.specs.declared.text.Part.{Part}
-use Rattle.micheline_text.specs.declared.text.Part.TheVariants as part
 use Rattle.micheline_text.specs.declared.text.Ending.{Ending}
 use Rattle.micheline_text.specs.declared.text.Ending.TheVariants as ending
 use Rattle.micheline_text.specs.declared.gap.Gap.{Gap}
@@ -34,40 +32,6 @@ bytes_token digits =
     else token.Faulty
 
 -- ---- strings
-
--- what a byte of a string says, after a `\` or not
-abbrev pub part_at : Bool → ℕ → Part
-part_at false b =
-    if b == 34 then part.End else if b == 92 then part.Escape
-    else if is_plain b then part.Byte b else part.Wrong
-part_at true b =
-    if b == 110 then part.Byte 10 else if (b == 34) || (b == 92) then part.Byte b else part.Wrong
-
--- a string behind its quote: what it says, how many bytes it takes, and how it ends; a `\` at the
--- end says one byte more
-abbrev pub Quoted : Type 0
-Quoted = List ℕ × ℕ × Ending
-
--- one byte more was taken, which says nothing
-abbrev pub one_more : Quoted → Quoted
-one_more q = (q.0, 1 + q.1, q.2)
-
--- one byte more was taken, which says this one
-abbrev pub said : ℕ → Quoted → Quoted
-said b q = (b ∷ q.0, 1 + q.1, q.2)
-
--- what a byte says, and what stands behind it
-abbrev pub after_part : Part → (Bool → Quoted) → Quoted
-after_part (part.Byte b) rest = said b (rest false)
-after_part part.Escape rest = one_more (rest true)
-after_part part.End rest = ([], 1, ending.Closed)
-after_part part.Wrong rest = ([], 0, ending.Wrong)
-
--- from here on, behind a `\` or not
-abbrev pub quoted : Bool → List ℕ → Quoted
-quoted false [] = ([], 0, ending.Open)
-quoted true [] = (10 ∷ [], 0, ending.Open)
-quoted escaped (b ∷ bytes) = after_part (part_at escaped b) (λ e. quoted e bytes)
 
 -- a string by how it ends
 abbrev pub text_by : Ending → List ℕ → Token

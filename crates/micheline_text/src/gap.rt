@@ -26,7 +26,7 @@ pub(crate) enum Move {
 
 /// What follows a gap.
 #[derive(Clone, Copy, Debug, PartialEq, Eq)]
-pub(crate) enum Gap {
+pub enum Gap {
     End,
     /// So many bytes are left at the token.
     Token(usize),

@@ -13,13 +13,15 @@ pub(crate) enum Kind {
     Hex,
 }
 
-pub(crate) fn is_digit(b: u8) -> bool
+/// 0 to 9.
+pub fn is_digit(b: u8) -> bool
     ensures { result ≡ is_digit b }
 {
     b.is_ascii_digit()
 }
 
-pub(crate) fn is_letter(b: u8) -> bool
+/// A to Z and a to z.
+pub fn is_letter(b: u8) -> bool
     ensures { result ≡ is_letter b }
 {
     (b'A' <= b && b <= b'Z') || (b'a' <= b && b <= b'z')
@@ -31,7 +33,8 @@ fn is_word_byte(b: u8) -> bool
     is_letter(b) || is_digit(b) || b == b'_'
 }
 
-fn is_hex(b: u8) -> bool
+/// A hexadecimal digit in either case.
+pub fn is_hex(b: u8) -> bool
     ensures { result ≡ is_hex b }
 {
     is_digit(b) || (b'A' <= b && b <= b'F') || (b'a' <= b && b <= b'f')
@@ -43,7 +46,8 @@ pub(crate) fn begins_note(b: u8) -> bool
     b == b'%' || b == b':' || b == b'@'
 }
 
-pub(crate) fn is_blank(b: u8) -> bool
+/// A tab, a newline, a carriage return or a blank.
+pub fn is_blank(b: u8) -> bool
     ensures { result ≡ is_blank b }
 {
     b == b'\t' || b == b'\n' || b == b'\r' || b == b' '

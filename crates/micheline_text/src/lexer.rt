@@ -39,8 +39,10 @@ fn minus_at(bytes: &[u8]) -> (Token, usize)
     (number_token(true, front_of(rest, n)), 1 + n)
 }
 
-fn begins_hex(bytes: &[u8]) -> bool
-    ensures { result ≡ begins_hex bytes.now }
+/// Whether `0x` stands in front.
+pub fn begins_hex(bytes: &[u8]) -> bool
+    ensures hex { result ≡ begins_hex bytes.now }
+    ensures within { IsTrue result → 2 ≤ length bytes.now }
 {
     bytes.len() >= 2 && bytes[0] == b'0' && bytes[1] == b'x'
 }

@@ -9,7 +9,8 @@
 //! - `node`: the tree, each node with its place. Begin here.
 //! - `reader`: bytes to nodes, token by token. It keeps a stack of open brackets, and calls itself
 //!   nowhere: `level` says what may follow at each place.
-//! - `gap`, `lexer`, `text`, `literals`: what parts tokens, and the token in front.
+//! - `gap`, `lexer`, `text`, `literals`: what parts tokens, and the token in front. Strings and
+//!   byte literals are read so in other languages too.
 //! - `lawfulness`: each literal of a node that the program holds keeps its rule, whatever the node.
 //! - `printer`: nodes to bytes. `brackets`: how deep the printed text goes.
 //! - `fault`: why bytes are no text, and where that is told.
@@ -39,10 +40,15 @@ mod token;
 
 pub use brackets::brackets_within;
 pub use fault::TextFault;
+pub use gap::Gap;
+pub use kinds::{is_blank, is_digit, is_hex, is_letter};
 pub use laws::{bytes_are_a_text_or_have_one_fault, bytes_are_cut_in_one_way};
+pub use lexer::begins_hex;
+pub use literals::hexadecimal;
 pub use node::{Body, Node};
 pub use printer::print_node;
 pub use reader::read_nodes;
+pub use text::{Ending, quoted};
 pub use value_core::NoMemory;
 
 #[cfg(test)]

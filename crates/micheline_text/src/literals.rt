@@ -2,7 +2,7 @@
 
 ghost use Rattle.std.specs.Prelude.{◌≡◌, ◌≤◌, ◌<◌, ◌^◌, ◌*◌, ◌+◌, min, None, length, IfOk};
 ghost use Rattle.micheline_text.specs.Lexing.{bytes_token, number_token, numeral};
-ghost use Rattle.micheline_text.specs.Literals.{decimal_value, hex_value, unhex};
+ghost use Rattle.micheline_text.specs.Literals.{decimal_value, hex_value, hexadecimal, unhex};
 
 use crate::NoMemory;
 use crate::token::Token;
@@ -82,14 +82,21 @@ fn joined(high: u8, low: u8) -> u8
 }
 
 /// The bytes of these digits, where they are pairs and not too many.
-pub(crate) fn bytes_token(alloc: Global, digits: &[u8]) -> Result<Token, NoMemory>
-    ensures { IfOk result (λ t. t ≡ bytes_token digits.now) }
+pub fn hexadecimal(alloc: Global, digits: &[u8]) -> Result<Option<Blob>, NoMemory>
+    ensures { IfOk result (λ o. o ≡ hexadecimal digits.now) }
 {
     let bytes = unhex(alloc, digits)?;
     if digits.len() % 2 != 0 {
-        return Ok(Token::Faulty);
+        return Ok(None);
     }
-    Ok(match Blob::new(bytes) {
+    Ok(Blob::new(bytes))
+}
+
+/// The byte literal of these digits, if they spell one.
+pub(crate) fn bytes_token(alloc: Global, digits: &[u8]) -> Result<Token, NoMemory>
+    ensures { IfOk result (λ t. t ≡ bytes_token digits.now) }
+{
+    Ok(match hexadecimal(alloc, digits)? {
         Some(blob) => Token::Bytes(blob),
         None => Token::Faulty,
     })

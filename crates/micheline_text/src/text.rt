@@ -1,7 +1,8 @@
 //! Strings in quotes.
 
 ghost use Rattle.std.specs.Prelude.{◌≡◌, ◌≤◌, false, length, drop, IfOk};
-ghost use Rattle.micheline_text.specs.Lexing.{part_at, quoted, text_at, text_by};
+ghost use Rattle.micheline_text.specs.Lexing.{text_at, text_by};
+ghost use Rattle.micheline_text.specs.Literals.{part_at, quoted};
 
 use crate::NoMemory;
 use crate::slices::rest_from;
@@ -18,9 +19,9 @@ pub(crate) enum Part {
     Wrong,
 }
 
-/// How a string ends.
+/// How a string ends: by its quote, with the bytes, or before a byte that stands in no string.
 #[derive(Clone, Copy, Debug, PartialEq, Eq)]
-pub(crate) enum Ending {
+pub enum Ending {
     Closed,
     Open,
     Wrong,
@@ -44,7 +45,8 @@ fn part_at(escaped: bool, b: u8) -> Part
     }
 }
 
-fn quoted(alloc: Global, bytes: &[u8]) -> Result<(Vec<u8>, usize, Ending), NoMemory>
+/// What a string says behind its quote, how many bytes it takes, and how it ends.
+pub fn quoted(alloc: Global, bytes: &[u8]) -> Result<(Vec<u8>, usize, Ending), NoMemory>
     ensures said { IfOk result (λ x. (x.0.items, x.1, x.2) ≡ quoted false bytes.now) }
     ensures within { IfOk result (λ x. x.1 ≤ length bytes.now) }
 {

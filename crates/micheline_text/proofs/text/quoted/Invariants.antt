@@ -1,6 +1,6 @@
 -- What is said so far, and what is left.
 use Rattle.std.proofs.Common.{◌≡◌, ◌+◌, ◌++◌, drop, false}
-use Rattle.micheline_text.specs.Lexing.{quoted}
+use Rattle.micheline_text.specs.Literals.{quoted}
 use Rattle.micheline_text.proofs.text.quoted.Given as goal
 
 abbrev pub invariant-loop-i : goal.invariant-loop-i
