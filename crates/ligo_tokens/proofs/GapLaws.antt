@@ -2,9 +2,9 @@
 use Rattle.std.proofs.Common.{◌≡◌, ℕ, zero, suc, ◌+◌, ◌-◌, ◌≤◌, ◌<◌, ◌⊎◌, inl, inr, Bool, true, false, not, ◌==◌, ◌&&◌, IsTrue, List, [], ◌∷◌, ◌++◌, length, drop, refl, sym, ap, subst, ◌∙◌, arith, Option, Some, None, append_assoc, length-append}
 use Rattle.micheline_text.specs.Kinds.{is_blank}
 use Rattle.ligo_tokens.specs.Gaps.{gap_from, closed}
-use Rattle.ligo_tokens.specs.Layout.{at_end, behind_comment, IsLine, IsPart, AreParts, IsGap, IsEnd, IsOpen, begins, begins_token}
-use Rattle.ligo_tokens.specs.declared.gap.Gap.{Gap}
-use Rattle.ligo_tokens.specs.declared.gap.Gap.TheVariants as gap
+use Rattle.ligo_tokens.specs.Layout.{at_end, behind_comment, HasNoNewline, PartBefore, PartsBefore, GapBefore, IsEnd, IsUnclosedComment, first_is, begins_token}
+use Rattle.micheline_text.specs.declared.gap.Gap.{Gap}
+use Rattle.micheline_text.specs.declared.gap.Gap.TheVariants as gap
 use Rattle.ligo_tokens.specs.declared.gap.Mode.TheVariants as mode
 
 pub by_case : {P : Type 0} (b : Bool) → (b ≡ true → P) → (b ≡ false → P) → P
@@ -64,14 +64,14 @@ comments from (c ∷ bytes) = let ih = comments from bytes in record {
 
 -- ---- lines
 
-pub line_ends : (line rest : List ℕ) → IsLine line → gap_from mode.Line (line ++ 10 ∷ rest) ≡ gap_from mode.Between rest
+pub line_ends : (line rest : List ℕ) → HasNoNewline line → gap_from mode.Line (line ++ 10 ∷ rest) ≡ gap_from mode.Between rest
 line_ends [] rest l = refl
 line_ends (b ∷ line) rest l = let other = l.0 in let f : (b == 10) ≡ false = negated (b == 10) other in rw f (line_ends line rest (l.1)) where
   negated : (c : Bool) → not c ≡ true → c ≡ false
   negated true n = absurd cc
   negated false n = refl
 
-pub line_open : (line : List ℕ) → IsLine line → gap_from mode.Line line ≡ gap.End
+pub line_open : (line : List ℕ) → HasNoNewline line → gap_from mode.Line line ≡ gap.End
 line_open [] l = refl
 line_open (b ∷ line) l = let f : (b == 10) ≡ false = negated (b == 10) (l.0) in rw f (line_open line (l.1)) where
   negated : (c : Bool) → not c ≡ true → c ≡ false
@@ -107,12 +107,12 @@ behind_inner (a ∷ b ∷ bytes) rest k h = by_case ((a == 40) && (b == 42))
       goes : ((a == 40) && (b == 42)) ≡ false → ((a == 42) && (b == 41)) ≡ false → behind_comment k (a ∷ b ∷ bytes) ≡ behind_comment k (b ∷ bytes)
       goes other not_end = rw (other, not_end) refl
 
-part_behind : (bytes rest : List ℕ) → IsPart bytes rest → Behind bytes rest
+part_behind : (bytes rest : List ℕ) → PartBefore bytes rest → Behind bytes rest
 part_behind bytes rest (inl p) = (p.0 ∷ [], p.1)
 part_behind bytes rest (inr (inl p)) = (47 ∷ 47 ∷ (p.0 ++ 10 ∷ []), p.1 ∙ ap (λ l. 47 ∷ 47 ∷ l) (sym (append_assoc (p.0) (10 ∷ []) rest)))
 part_behind bytes rest (inr (inr p)) = let b = behind_inner (p.0) rest 0 (p.2) in (40 ∷ 42 ∷ b.0, p.1 ∙ ap (λ l. 40 ∷ 42 ∷ l) (b.1))
 
-pub gap_behind : (n : ℕ) (bytes rest : List ℕ) → AreParts n bytes rest → Behind bytes rest
+pub gap_behind : (n : ℕ) (bytes rest : List ℕ) → PartsBefore n bytes rest → Behind bytes rest
 gap_behind zero bytes rest g = ([], g)
 gap_behind (suc n) bytes rest g =
     let b = part_behind bytes g.0 g.1 in
@@ -131,12 +131,12 @@ behind_drop bytes rest b =
 
 -- ---- what is skipped of a gap
 
-part_skipped : (bytes rest : List ℕ) → IsPart bytes rest → gap_from mode.Between bytes ≡ gap_from mode.Between rest
+part_skipped : (bytes rest : List ℕ) → PartBefore bytes rest → gap_from mode.Between bytes ≡ gap_from mode.Between rest
 part_skipped bytes rest (inl p) = let h : is_blank p.0 ≡ true = p.2 in rw (p.1, h) refl
 part_skipped bytes rest (inr (inl p)) = rw (p.1) (line_ends (p.0) rest (p.2))
 part_skipped bytes rest (inr (inr p)) = let c = (comments (length (40 ∷ 42 ∷ p.0)) (p.0)).block 0 in rw (p.1) (c ∙ ap (behind (length (40 ∷ 42 ∷ p.0))) (p.2))
 
-pub gap_skipped : (n : ℕ) (bytes rest : List ℕ) → AreParts n bytes rest → gap_from mode.Between bytes ≡ gap_from mode.Between rest
+pub gap_skipped : (n : ℕ) (bytes rest : List ℕ) → PartsBefore n bytes rest → gap_from mode.Between bytes ≡ gap_from mode.Between rest
 gap_skipped zero bytes rest g = ap (gap_from mode.Between) g
 gap_skipped (suc n) bytes rest g = part_skipped bytes g.0 g.1 ∙ gap_skipped n g.0 rest g.2
 
@@ -144,7 +144,7 @@ pub end_told : (rest : List ℕ) → IsEnd rest → gap_from mode.Between rest �
 end_told rest (inl e) = rw e refl
 end_told rest (inr e) = rw (e.1) (line_open (e.0) (e.2))
 
-pub open_told : (rest : List ℕ) → IsOpen rest → gap_from mode.Between rest ≡ gap.Comment (length rest)
+pub open_told : (rest : List ℕ) → IsUnclosedComment rest → gap_from mode.Between rest ≡ gap.Comment (length rest)
 open_told rest o = let c = (comments (length (40 ∷ 42 ∷ o.0)) (o.0)).block 0 in rw (o.1) (c ∙ ap (behind (length (40 ∷ 42 ∷ o.0))) (o.2))
 
 not_true : (c : Bool) → not c ≡ true → c ≡ false
@@ -156,11 +156,11 @@ split_and true true h = (refl, refl)
 split_and true false h = absurd cc
 split_and false b h = absurd cc
 
-slash_token : (bytes : List ℕ) (n : ℕ) → begins 47 bytes ≡ false → gap_from (mode.Slash n) bytes ≡ gap.Token n
+slash_token : (bytes : List ℕ) (n : ℕ) → first_is 47 bytes ≡ false → gap_from (mode.Slash n) bytes ≡ gap.Token n
 slash_token [] n h = refl
 slash_token (b ∷ bytes) n h = rw h refl
 
-paren_token : (bytes : List ℕ) (n : ℕ) → begins 42 bytes ≡ false → gap_from (mode.Paren n) bytes ≡ gap.Token n
+paren_token : (bytes : List ℕ) (n : ℕ) → first_is 42 bytes ≡ false → gap_from (mode.Paren n) bytes ≡ gap.Token n
 paren_token [] n h = refl
 paren_token (b ∷ bytes) n h = rw h refl
 
@@ -170,29 +170,29 @@ and_false a b e h = ap (λ c. c && b) (sym e) ∙ h
 pub token_told : (rest : List ℕ) → begins_token rest ≡ true → gap_from mode.Between rest ≡ gap.Token (length rest)
 token_told [] h = absurd cc
 token_told (a ∷ bytes) h =
-    let parts = split_and (not (is_blank a)) (not ((a == 47) && begins 47 bytes) && not ((a == 40) && begins 42 bytes)) h in
-    let more = split_and (not ((a == 47) && begins 47 bytes)) (not ((a == 40) && begins 42 bytes)) (parts.1) in
+    let parts = split_and (not (is_blank a)) (not ((a == 47) && first_is 47 bytes) && not ((a == 40) && first_is 42 bytes)) h in
+    let more = split_and (not ((a == 47) && first_is 47 bytes)) (not ((a == 40) && first_is 42 bytes)) (parts.1) in
     let blank = not_true (is_blank a) (parts.0) in
     by_case (a == 47)
-    (λ is. rw (blank, is) (slash_token bytes (length (a ∷ bytes)) (and_false (a == 47) (begins 47 bytes) is (not_true ((a == 47) && begins 47 bytes) (more.0)))))
+    (λ is. rw (blank, is) (slash_token bytes (length (a ∷ bytes)) (and_false (a == 47) (first_is 47 bytes) is (not_true ((a == 47) && first_is 47 bytes) (more.0)))))
     (λ other. by_case (a == 40)
-    (λ is. rw (blank, other, is) (paren_token bytes (length (a ∷ bytes)) (and_false (a == 40) (begins 42 bytes) is (not_true ((a == 40) && begins 42 bytes) (more.1)))))
+    (λ is. rw (blank, other, is) (paren_token bytes (length (a ∷ bytes)) (and_false (a == 40) (first_is 42 bytes) is (not_true ((a == 40) && first_is 42 bytes) (more.1)))))
     (λ no_paren. rw (blank, other, no_paren) refl))
 
 -- ---- some gap stands in front of any bytes, and then the end, a comment without one, or a token
 
 abbrev pub Ahead : List ℕ → Type 0
-Ahead bytes = (rest : List ℕ) × IsGap bytes rest × (IsEnd rest ⊎ (IsOpen rest ⊎ IsTrue (begins_token rest)))
+Ahead bytes = (rest : List ℕ) × GapBefore bytes rest × (IsEnd rest ⊎ (IsUnclosedComment rest ⊎ IsTrue (begins_token rest)))
 
-one_more : (bytes between : List ℕ) → IsPart bytes between → Ahead between → Ahead bytes
+one_more : (bytes between : List ℕ) → PartBefore bytes between → Ahead between → Ahead bytes
 one_more bytes between p a = (a.0, (suc a.1.0, (between, p, a.1.1)), a.2)
 
-here : (bytes : List ℕ) → IsEnd bytes ⊎ (IsOpen bytes ⊎ IsTrue (begins_token bytes)) → Ahead bytes
+here : (bytes : List ℕ) → IsEnd bytes ⊎ (IsUnclosedComment bytes ⊎ IsTrue (begins_token bytes)) → Ahead bytes
 here bytes w = (bytes, (0, refl), w)
 
 -- a line ends, or goes on to the end of the bytes
 abbrev Lined : List ℕ → Type 0
-Lined bytes = ((line rest : List ℕ) × (bytes ≡ line ++ 10 ∷ rest) × IsLine line × (length rest < length bytes)) ⊎ IsLine bytes
+Lined bytes = ((line rest : List ℕ) × (bytes ≡ line ++ 10 ∷ rest) × HasNoNewline line × (length rest < length bytes)) ⊎ HasNoNewline bytes
 
 lined : (bytes : List ℕ) → Lined bytes
 lined [] = inr tt
@@ -206,7 +206,7 @@ lined (b ∷ bytes) = by_case (b == 10)
 pub shorter_behind : (bytes rest : List ℕ) → Behind bytes rest → length rest ≤ length bytes
 shorter_behind bytes rest b = let l = length-append b.0 rest in rw (b.1) (omega (arith, l))
 
-token_here : (a : ℕ) (bytes : List ℕ) → is_blank a ≡ false → ((a == 47) && begins 47 bytes) ≡ false → ((a == 40) && begins 42 bytes) ≡ false → begins_token (a ∷ bytes) ≡ true
+token_here : (a : ℕ) (bytes : List ℕ) → is_blank a ≡ false → ((a == 47) && first_is 47 bytes) ≡ false → ((a == 40) && first_is 42 bytes) ≡ false → begins_token (a ∷ bytes) ≡ true
 token_here a bytes h i j = rw (h, i, j) refl
 
 module _ (n : ℕ) (ih : (bytes : List ℕ) → length bytes ≤ n → Ahead bytes) where
@@ -241,7 +241,7 @@ module _ (n : ℕ) (ih : (bytes : List ℕ) → length bytes ≤ n → Ahead byt
       (λ is. subst (λ x. Ahead (x ∷ bytes)) (sym (is_it a 47 is)) (at_slash bytes le refl))
       (λ no_slash. by_case (a == 40)
       (λ is. subst (λ x. Ahead (x ∷ bytes)) (sym (is_it a 40 is)) (at_paren bytes le refl))
-      (λ no_paren. here (a ∷ bytes) (inr (inr (token_here a bytes no_blank (none (a == 47) (begins 47 bytes) no_slash) (none (a == 40) (begins 42 bytes) no_paren))))))) where
+      (λ no_paren. here (a ∷ bytes) (inr (inr (token_here a bytes no_blank (none (a == 47) (first_is 47 bytes) no_slash) (none (a == 40) (first_is 42 bytes) no_paren))))))) where
         none : (b c : Bool) → b ≡ false → (b && c) ≡ false
         none b c e = rw e refl
 

@@ -3,14 +3,14 @@ use Rattle.std.proofs.Common.{◌≡◌, ℕ, zero, suc, ◌+◌, ◌-◌, ◌�
 use Rattle.std.proofs.lemmas.List.{length-drop}
 use Rattle.ligo_tokens.specs.Gaps.{gap_from}
 use Rattle.ligo_tokens.specs.Lexing.{front, front_of_kind, placed, tokens_of}
-use Rattle.ligo_tokens.specs.Layout.{IsGap, IsEnd, IsOpen, begins_token, AreLaid}
+use Rattle.ligo_tokens.specs.Layout.{GapBefore, IsEnd, IsUnclosedComment, begins_token, AreLaid}
 use Rattle.ligo_tokens.specs.declared.gap.Mode.TheVariants as mode
 use Rattle.ligo_tokens.specs.declared.token.Kind.TheVariants as kind
 use Rattle.ligo_tokens.specs.declared.token.Token.{Token}
 use Rattle.ligo_tokens.proofs.GapLaws.{ahead, gap_behind, behind_drop, gap_skipped, end_told, open_told, token_told, shorter_behind}
 use Rattle.ligo_tokens.proofs.TokensLemmas.{no_token, open_comment, one_token, front_takes}
 
-module _ (at : ℕ) (bytes rest : List ℕ) (g : IsGap bytes rest) where
+module _ (at : ℕ) (bytes rest : List ℕ) (g : GapBefore bytes rest) where
   skipped : gap_from mode.Between bytes ≡ gap_from mode.Between rest
   skipped = gap_skipped g.0 bytes rest g.1
 
@@ -20,7 +20,7 @@ module _ (at : ℕ) (bytes rest : List ℕ) (g : IsGap bytes rest) where
   read_end : IsEnd rest → tokens_of at bytes ≡ []
   read_end e = no_token at bytes (skipped ∙ end_told rest e)
 
-  read_open : IsOpen rest → tokens_of at bytes ≡ placed (at + (length bytes - length rest)) (front_of_kind kind.Faulty None (length rest)) ∷ []
+  read_open : IsUnclosedComment rest → tokens_of at bytes ≡ placed (at + (length bytes - length rest)) (front_of_kind kind.Faulty None (length rest)) ∷ []
   read_open o = open_comment at bytes (length rest) (skipped ∙ open_told rest o)
 
   read_token : begins_token rest ≡ true → tokens_of at bytes ≡
@@ -34,7 +34,7 @@ some_left (a ∷ rest) h = omega arith
 pub laid_as_read : (n at : ℕ) (bytes : List ℕ) → length bytes < n → AreLaid at bytes (tokens_of at bytes)
 laid_as_read zero at bytes lt = absurd (omega arith)
 laid_as_read (suc n) at bytes lt = let a = ahead bytes in look a.0 a.1 a.2 (λ to more less. laid_as_read n to more less) where
-  look : (rest : List ℕ) (g : IsGap bytes rest) → IsEnd rest ⊎ (IsOpen rest ⊎ IsTrue (begins_token rest)) →
+  look : (rest : List ℕ) (g : GapBefore bytes rest) → IsEnd rest ⊎ (IsUnclosedComment rest ⊎ IsTrue (begins_token rest)) →
       ((to : ℕ) (more : List ℕ) → length more < n → AreLaid to more (tokens_of to more)) → AreLaid at bytes (tokens_of at bytes)
   look rest g (inl e) ih = subst (AreLaid at bytes) (sym (read_end at bytes rest g e)) (rest, g, e)
   look rest g (inr (inl o)) ih = subst (AreLaid at bytes) (sym (read_open at bytes rest g o)) (rest, g, inl (o, refl, refl))

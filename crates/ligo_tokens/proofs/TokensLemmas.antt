@@ -7,14 +7,16 @@ use Rattle.std.specs.Prelude.{slice_index, ◌==◌, codes}
 use Rattle.micheline_text.specs.Kinds.{is_blank, is_digit, is_hex}
 use Rattle.micheline_text.specs.Lexing.{begins_hex}
 use Rattle.ligo_tokens.specs.declared.token.Says.{Says}
-use Rattle.ligo_tokens.specs.Gaps.{gap_from, gap_end, move_at, after_move, closed, IsLeft, GapWithin, ModeWithin, MoveWithin}
-use Rattle.ligo_tokens.specs.Lexing.{is_lower, is_upper, is_name_byte, is_number_byte, begins_with, name_run, keyword, word_front, literal_front, bytes_says, quoted, text_says, double_at, single_sign, single_front, sign_front, front, front_of_kind, placed, tokens_from, tokens_of, after_gap}
+use Rattle.micheline_text.specs.Gaps.{IsLeft, GapWithin}
+use Rattle.micheline_text.specs.Literals.{hexadecimal, quoted}
+use Rattle.ligo_tokens.specs.Gaps.{gap_from, gap_end, move_at, after_move, closed, ModeWithin, MoveWithin}
+use Rattle.ligo_tokens.specs.Lexing.{is_lower, is_upper, is_name_byte, is_number_byte, begins_with, name_run, keyword, word_front, literal_front, bytes_says, text_says, double_at, single_sign, single_front, sign_front, front, front_of_kind, placed, tokens_from, tokens_of, after_gap}
 use Rattle.ligo_tokens.specs.declared.token.Kind.{Kind}
 use Rattle.ligo_tokens.specs.declared.token.Kind.TheVariants as kind
 use Rattle.ligo_tokens.specs.declared.token.Token.{Token}
 use Rattle.ligo_tokens.specs.declared.lexer.Front.{Front}
-use Rattle.ligo_tokens.specs.declared.gap.Gap.{Gap}
-use Rattle.ligo_tokens.specs.declared.gap.Gap.TheVariants as gap
+use Rattle.micheline_text.specs.declared.gap.Gap.{Gap}
+use Rattle.micheline_text.specs.declared.gap.Gap.TheVariants as gap
 use Rattle.ligo_tokens.specs.declared.gap.Mode.{Mode}
 use Rattle.ligo_tokens.specs.declared.gap.Mode.TheVariants as mode
 use Rattle.ligo_tokens.specs.declared.gap.Move.{Move}
@@ -67,9 +69,9 @@ front_takes bytes some =
     chosen (is_lower b) _ _ (λ e. word_takes (keyword (name_run bytes)) (name_run bytes) (run_is is_name_byte bytes some (lower_begins b e)))
     (λ e. chosen (is_upper b) _ _ (λ e. run_is is_name_byte bytes some (upper_begins b e))
     (λ e. chosen (is_digit b) _ _
-    (λ e. chosen (begins_hex bytes) _ _ (λ h. literal_takes kind.Bytes (bytes_says (take (prefix_len is_hex (drop 2 bytes)) (drop 2 bytes))) (2 + prefix_len is_hex (drop 2 bytes)) (length bytes) (omega arith) some)
+    (λ e. chosen (begins_hex bytes) _ _ (λ h. literal_takes kind.Bytes (bytes_says (hexadecimal (take (prefix_len is_hex (drop 2 bytes)) (drop 2 bytes)))) (2 + prefix_len is_hex (drop 2 bytes)) (length bytes) (omega arith) some)
     (λ h. let r = run_is is_number_byte bytes some (digit_begins b e) in omega (arith, r)))
-    (λ e. chosen (b == 34) _ _ (λ e. literal_takes kind.Text (text_says (quoted false (drop 1 bytes)).0) (1 + (quoted false (drop 1 bytes)).1) (length bytes) (omega arith) some)
+    (λ e. chosen (b == 34) _ _ (λ e. literal_takes kind.Text (text_says (quoted false (drop 1 bytes)).2 (quoted false (drop 1 bytes)).0) (1 + (quoted false (drop 1 bytes)).1) (length bytes) (omega arith) some)
     (λ e. chosen (begins_with bytes (codes "[@entry]")) _ _ (λ e. omega arith)
     (λ e. chosen (begins_with bytes (codes "[@inline]")) _ _ (λ e. omega arith) (λ e. sign_takes (double_at b bytes) b (length bytes) some))))))
 

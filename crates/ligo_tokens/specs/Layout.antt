@@ -22,46 +22,49 @@ behind_comment further (a ∷ b ∷ bytes) =
     else if (a == 42) && (b == 41) then at_end further bytes (λ n. behind_comment n bytes)
     else behind_comment further (b ∷ bytes)
 
-abbrev pub IsLine : List ℕ → Type 0
-IsLine = AllByRecursion (λ b. IsTrue (not (b == 10)))
+-- what stands in a line
+abbrev pub HasNoNewline : List ℕ → Type 0
+HasNoNewline = AllByRecursion (λ b. IsTrue (not (b == 10)))
 
 -- a blank, a comment to the end of its line, or a comment in brackets stands in front, and then the rest
-abbrev pub IsPart : List ℕ → List ℕ → Type 0
-IsPart bytes rest = ((b : ℕ) × (bytes ≡ b ∷ rest) × IsTrue (is_blank b))
-    ⊎ (((line : List ℕ) × (bytes ≡ 47 ∷ 47 ∷ (line ++ 10 ∷ rest)) × IsLine line)
+abbrev pub PartBefore : List ℕ → List ℕ → Type 0
+PartBefore bytes rest = ((b : ℕ) × (bytes ≡ b ∷ rest) × IsTrue (is_blank b))
+    ⊎ (((line : List ℕ) × (bytes ≡ 47 ∷ 47 ∷ (line ++ 10 ∷ rest)) × HasNoNewline line)
     ⊎ ((inner : List ℕ) × (bytes ≡ 40 ∷ 42 ∷ inner) × (behind_comment 0 inner ≡ Some rest)))
 
 -- so many of these, one behind another
-abbrev pub AreParts : ℕ → List ℕ → List ℕ → Type 0
-AreParts zero bytes rest = bytes ≡ rest
-AreParts (suc n) bytes rest = (between : List ℕ) × IsPart bytes between × AreParts n between rest
+abbrev pub PartsBefore : ℕ → List ℕ → List ℕ → Type 0
+PartsBefore zero bytes rest = bytes ≡ rest
+PartsBefore (suc n) bytes rest = (between : List ℕ) × PartBefore bytes between × PartsBefore n between rest
 
-abbrev pub IsGap : List ℕ → List ℕ → Type 0
-IsGap bytes rest = (n : ℕ) × AreParts n bytes rest
+-- any number of them
+abbrev pub GapBefore : List ℕ → List ℕ → Type 0
+GapBefore bytes rest = (n : ℕ) × PartsBefore n bytes rest
 
 -- ---- what stands between gaps
 
 -- nothing, or a comment whose line ends with the text
 abbrev pub IsEnd : List ℕ → Type 0
-IsEnd rest = (rest ≡ []) ⊎ ((line : List ℕ) × (rest ≡ 47 ∷ 47 ∷ line) × IsLine line)
+IsEnd rest = (rest ≡ []) ⊎ ((line : List ℕ) × (rest ≡ 47 ∷ 47 ∷ line) × HasNoNewline line)
 
 -- a comment without an end
-abbrev pub IsOpen : List ℕ → Type 0
-IsOpen rest = (inner : List ℕ) × (rest ≡ 40 ∷ 42 ∷ inner) × (behind_comment 0 inner ≡ None)
+abbrev pub IsUnclosedComment : List ℕ → Type 0
+IsUnclosedComment rest = (inner : List ℕ) × (rest ≡ 40 ∷ 42 ∷ inner) × (behind_comment 0 inner ≡ None)
 
-abbrev pub begins : ℕ → List ℕ → Bool
-begins a [] = false
-begins a (b ∷ bytes) = b == a
+-- the byte stands in front
+abbrev pub first_is : ℕ → List ℕ → Bool
+first_is a [] = false
+first_is a (b ∷ bytes) = b == a
 
 -- a byte that begins no gap
 abbrev pub begins_token : List ℕ → Bool
 begins_token [] = false
-begins_token (a ∷ bytes) = not (is_blank a) && (not ((a == 47) && begins 47 bytes) && not ((a == 40) && begins 42 bytes))
+begins_token (a ∷ bytes) = not (is_blank a) && (not ((a == 47) && first_is 47 bytes) && not ((a == 40) && first_is 42 bytes))
 
 -- the bytes, before which so many stand, are these tokens with gaps between them
 abbrev pub AreLaid : ℕ → List ℕ → List Token → Type 0
-AreLaid at bytes [] = (rest : List ℕ) × IsGap bytes rest × IsEnd rest
-AreLaid at bytes (t ∷ ts) = (rest : List ℕ) × IsGap bytes rest ×
-    ((IsOpen rest × (t ≡ placed (at + (length bytes - length rest)) (front_of_kind kind.Faulty None (length rest))) × (ts ≡ []))
+AreLaid at bytes [] = (rest : List ℕ) × GapBefore bytes rest × IsEnd rest
+AreLaid at bytes (t ∷ ts) = (rest : List ℕ) × GapBefore bytes rest ×
+    ((IsUnclosedComment rest × (t ≡ placed (at + (length bytes - length rest)) (front_of_kind kind.Faulty None (length rest))) × (ts ≡ []))
     ⊎ (IsTrue (begins_token rest) × (t ≡ placed (at + (length bytes - length rest)) (front rest)) ×
     AreLaid (at + (length bytes - length rest) + (front rest).taken) (drop (front rest).taken rest) ts))

@@ -1,16 +1,15 @@
 -- The token in front of bytes that begin with no gap, and all tokens of a text.
 use Rattle.std.specs.Prelude.{ℕ, zero, suc, ◌+◌, ◌-◌, ◌*◌, ◌%◌, ◌^◌, pos, Bool, true, false, List, [], ◌∷◌, length, take, drop, nat_lt, nat_le, ◌==◌, ◌&&◌, ◌||◌, if◌then◌else◌, fold, codes, bytes_eq, slice_index, Option, Some, None}
 use Rattle.std.specs.List.{prefix_len}
-use Rattle.std.specs.Option.{option_map}
-use Rattle.value_core.specs.Leaves.{is_text, is_blob}
-use Rattle.micheline_text.specs.Kinds.{is_digit, is_letter, is_hex, is_plain}
+use Rattle.value_core.specs.Leaves.{is_text}
+use Rattle.micheline_text.specs.Kinds.{is_digit, is_letter, is_hex}
 use Rattle.micheline_text.specs.Lexing.{begins_hex}
-use Rattle.micheline_text.specs.Literals.{unhex}
-use Rattle.ligo_tokens.specs.declared.literals.Part.{Part}
-use Rattle.ligo_tokens.specs.declared.literals.Part.TheVariants as part
+use Rattle.micheline_text.specs.Literals.{hexadecimal, quoted}
+use Rattle.micheline_text.specs.declared.text.Ending.{Ending}
+use Rattle.micheline_text.specs.declared.text.Ending.TheVariants as ending
 use Rattle.ligo_tokens.specs.Gaps.{gap_from}
-use Rattle.ligo_tokens.specs.declared.gap.Gap.{Gap}
-use Rattle.ligo_tokens.specs.declared.gap.Gap.TheVariants as gap
+use Rattle.micheline_text.specs.declared.gap.Gap.{Gap}
+use Rattle.micheline_text.specs.declared.gap.Gap.TheVariants as gap
 use Rattle.ligo_tokens.specs.declared.gap.Mode.TheVariants as mode
 use Rattle.ligo_tokens.specs.declared.runs.Run.{Run}
 use Rattle.ligo_tokens.specs.declared.runs.Run.TheVariants as run
@@ -147,41 +146,25 @@ abbrev pub literal_front : Kind → Option Says → ℕ → ℕ → Front
 literal_front k (Some s) taken left = front_of_kind k (Some s) taken
 literal_front k None taken left = front_of_kind kind.Faulty None left
 
-abbrev pub bytes_says : List ℕ → Option Says
-bytes_says digits = if (length digits % 2 == 0) && is_blob (unhex None digits) then Some (says.Bytes (unhex None digits)) else None
+abbrev pub bytes_says : Option (List ℕ) → Option Says
+bytes_says (Some t) = Some (says.Bytes t)
+bytes_says None = None
 
 abbrev pub bytes_at : List ℕ → Front
 bytes_at bytes =
     let n = prefix_len is_hex (drop 2 bytes) in
-    literal_front kind.Bytes (bytes_says (take n (drop 2 bytes))) (2 + n) (length bytes)
+    literal_front kind.Bytes (bytes_says (hexadecimal (take n (drop 2 bytes)))) (2 + n) (length bytes)
 
--- what a byte of a string says, after a `\` or not
-abbrev pub part_at : Bool → ℕ → Part
-part_at false b =
-    if b == 34 then part.End else if b == 92 then part.Escape else if is_plain b then part.Byte b else part.Wrong
-part_at true b =
-    if b == 110 then part.Byte 10 else if (b == 34) || (b == 92) then part.Byte b else part.Wrong
-
--- a string behind its quote: what it says, unless it has no end, and how many bytes it takes
-abbrev pub Quoted : Type 0
-Quoted = Option (List ℕ) × ℕ
-
-abbrev pub after_part : Part → (Bool → Quoted) → Quoted
-after_part (part.Byte b) rest = (option_map (λ t. b ∷ t) (rest false).0, 1 + (rest false).1)
-after_part part.Escape rest = ((rest true).0, 1 + (rest true).1)
-after_part part.End rest = (Some [], 1)
-after_part part.Wrong rest = (None, 0)
-
-abbrev pub quoted : Bool → List ℕ → Quoted
-quoted escaped [] = (None, 0)
-quoted escaped (b ∷ bytes) = after_part (part_at escaped b) (λ e. quoted e bytes)
-
-abbrev pub text_says : Option (List ℕ) → Option Says
-text_says (Some t) = if is_text t then Some (says.Text t) else None
-text_says None = None
+-- a string that has its end and isn't too long
+abbrev pub text_says : Ending → List ℕ → Option Says
+text_says ending.Closed t = if is_text t then Some (says.Text t) else None
+text_says ending.Open t = None
+text_says ending.Wrong t = None
 
 abbrev pub quoted_at : List ℕ → Front
-quoted_at bytes = let q = quoted false (drop 1 bytes) in literal_front kind.Text (text_says q.0) (1 + q.1) (length bytes)
+quoted_at bytes =
+    let q = quoted false (drop 1 bytes) in
+    literal_front kind.Text (text_says q.2 q.0) (1 + q.1) (length bytes)
 
 -- ---- signs
 

@@ -1,9 +1,11 @@
 //! What parts tokens: blanks, `//` to the end of the line, and `(* *)`, one in another.
 
 ghost use Rattle.std.specs.Prelude.{◌≡◌, ◌≤◌, ◌<◌, ◌+◌, ◌-◌, ◌^◌, ℕ, length};
-ghost use Rattle.micheline_text.specs.Kinds.{is_blank};
-ghost use Rattle.ligo_tokens.specs.Gaps.{gap_end, gap_from, move_at, opened, GapWithin, IsLeft, ModeWithin, MoveWithin, moved};
+ghost use Rattle.micheline_text.specs.Gaps.{GapWithin, IsLeft};
+ghost use Rattle.ligo_tokens.specs.Gaps.{gap_end, gap_from, move_at, opened, ModeWithin, MoveWithin, moved};
 ghost use Rattle.ligo_tokens.specs.declared.gap.Mode.TheVariants.{Between};
+
+use micheline_text::{Gap, is_blank};
 
 /// What was seen of a gap. A comment that is open has so many bytes left from its first on, and so
 /// many further comments are open in it.
@@ -30,27 +32,12 @@ pub(crate) enum Move {
     Stop(usize),
 }
 
-/// What follows a gap.
-#[derive(Clone, Copy, Debug, PartialEq, Eq)]
-pub(crate) enum Gap {
-    End,
-    /// So many bytes are left at the token.
-    Token(usize),
-    /// A comment has no end; so many bytes are left from its first on.
-    Comment(usize),
-}
-
-fn is_blank(b: u8) -> bool
-    ensures { result ≡ is_blank b }
-{
-    b == b'\t' || b == b'\n' || b == b'\r' || b == b' '
-}
-
 fn move_at(mode: Mode, left: usize, b: u8) -> Move
     requires { opened mode < 2 ^ 64 - 1 }
     ensures moved { result ≡ move_at mode left b }
     ensures opened { moved result ≤ opened mode + 1 }
-    ensures within { (total : ℕ) → IsLeft left total → ModeWithin total mode → MoveWithin total result }
+    ensures within { (total : ℕ) →
+        IsLeft left total → ModeWithin total mode → MoveWithin total result }
 {
     match mode {
         Mode::Between if is_blank(b) => Move::On(Mode::Between),

@@ -1,14 +1,14 @@
 //! The token in front of bytes that begin with no gap, and all tokens of a text.
 
 ghost use Rattle.std.specs.Prelude.{◌≡◌, ◌≤◌, ◌<◌, ◌^◌, ◌∷◌, [], length, drop, slice_index, IfOk, IfSome, IsTrue, MatchOption, None};
-ghost use Rattle.micheline_text.specs.Lexing.{begins_hex};
 ghost use Rattle.ligo_tokens.specs.Lexing.{bytes_at, double_at, double_sign, front, front_of_kind, is_name_byte, is_number_byte, keyword, literal_front, lower_at, name_front, name_kind, name_run, numeral_at, quoted_at, sign_at, single_sign, tokens_of, upper_at};
 
-use crate::gap::{Gap, skip};
-use crate::literals::{bytes_says, quoted, text_says};
+use crate::gap::skip;
+use crate::literals::{bytes_says, text_says};
 use crate::numerals::{Suffix, numeral_says};
-use crate::runs::{Run, begins_with, is_digit, is_lower, is_upper, is_word, length_of};
+use crate::runs::{Run, begins_with, is_lower, is_upper, is_word, length_of};
 use crate::token::{Kind, Says, Token};
+use micheline_text::{Gap, begins_hex, hexadecimal, is_digit, quoted};
 use sqlite_items::{Boxed, Items};
 use std::alloc::Global;
 use value_core::NoMemory;
@@ -144,13 +144,6 @@ fn literal_front(
     }
 }
 
-fn begins_hex(bytes: &[u8]) -> bool
-    ensures hex { result ≡ begins_hex bytes.now }
-    ensures within { IsTrue result → 2 ≤ length bytes.now }
-{
-    bytes.len() >= 2 && bytes[0] == b'0' && bytes[1] == b'x'
-}
-
 fn bytes_at(alloc: Global, bytes: &[u8]) -> Result<Front, NoMemory>
     requires { 2 ≤ length bytes.now }
     ensures front { IfOk result (λ f. f ≡ bytes_at bytes.now) }
@@ -158,7 +151,7 @@ fn bytes_at(alloc: Global, bytes: &[u8]) -> Result<Front, NoMemory>
 {
     let digits = bytes.split_at(2).1;
     let n = length_of(Run::Hex, digits);
-    let says = bytes_says(alloc, digits.split_at(n).0)?;
+    let says = bytes_says(hexadecimal(alloc, digits.split_at(n).0)?);
     literal_front(alloc, Kind::Bytes, says, 2 + n, bytes.len())
 }
 
@@ -167,8 +160,9 @@ fn quoted_at(alloc: Global, bytes: &[u8]) -> Result<Front, NoMemory>
     ensures front { IfOk result (λ f. f ≡ quoted_at bytes.now) }
     ensures within { IfOk result (λ f. (1 ≤ f.taken) × (f.taken ≤ length bytes.now)) }
 {
-    let (said, taken) = quoted(alloc, bytes.split_at(1).1)?;
-    literal_front(alloc, Kind::Text, text_says(said), 1 + taken, bytes.len())
+    let (said, taken, ending) = quoted(alloc, bytes.split_at(1).1)?;
+    let says = text_says(ending, said);
+    literal_front(alloc, Kind::Text, says, 1 + taken, bytes.len())
 }
 
 fn double_sign(a: u8, b: u8) -> Option<Kind>

@@ -3,8 +3,9 @@
 ghost use Rattle.std.specs.Prelude.{◌≡◌, ◌≤◌, length};
 ghost use Rattle.std.specs.List.{prefix_len};
 ghost use Rattle.std.specs.Str.{bytes_eq};
-ghost use Rattle.micheline_text.specs.Kinds.{is_digit, is_hex, is_letter};
 ghost use Rattle.ligo_tokens.specs.Lexing.{begins_with, is_lower, is_name_byte, is_run, is_upper};
+
+use micheline_text::{is_digit, is_hex, is_letter};
 
 /// What a token may go on with.
 #[derive(Clone, Copy, Debug, PartialEq, Eq)]
@@ -12,12 +13,6 @@ pub(crate) enum Run {
     Name,
     Number,
     Hex,
-}
-
-pub(crate) fn is_digit(b: u8) -> bool
-    ensures { result ≡ is_digit b }
-{
-    b.is_ascii_digit()
 }
 
 pub(crate) fn is_lower(b: u8) -> bool
@@ -32,22 +27,10 @@ pub(crate) fn is_upper(b: u8) -> bool
     b'A' <= b && b <= b'Z'
 }
 
-fn is_letter(b: u8) -> bool
-    ensures { result ≡ is_letter b }
-{
-    (b'A' <= b && b <= b'Z') || (b'a' <= b && b <= b'z')
-}
-
 fn is_name_byte(b: u8) -> bool
     ensures { result ≡ is_name_byte b }
 {
     is_letter(b) || is_digit(b) || b == b'_' || b == b'\''
-}
-
-fn is_hex(b: u8) -> bool
-    ensures { result ≡ is_hex b }
-{
-    is_digit(b) || (b'A' <= b && b <= b'F') || (b'a' <= b && b <= b'f')
 }
 
 fn is_run(run: Run, b: u8) -> bool

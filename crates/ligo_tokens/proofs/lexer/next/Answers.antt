@@ -4,7 +4,7 @@ use Rattle.ligo_tokens.specs.Gaps.{gap_from}
 use Rattle.ligo_tokens.specs.Lexing.{front, placed, tokens_of}
 use Rattle.ligo_tokens.specs.declared.token.Token.{Token}
 use Rattle.ligo_tokens.specs.declared.lexer.Front.{Front}
-use Rattle.ligo_tokens.specs.declared.gap.Gap.TheVariants as gap
+use Rattle.micheline_text.specs.declared.gap.Gap.TheVariants as gap
 use Rattle.ligo_tokens.specs.declared.gap.Mode.TheVariants as mode
 use Rattle.ligo_tokens.proofs.TokensLemmas.{no_token, comment_step, token_step}
 use Rattle.ligo_tokens.proofs.lexer.next.Goals as goal
