@@ -152,8 +152,8 @@ IsBefore (i ∷ p) [] = ⊥
 IsBefore (i ∷ p) (j ∷ q) = (i < j) ⊎ ((i ≡ j) × IsBefore p q)
 
 -- of these faults, each at its places, it is the one that stands before all others
-abbrev pub IsFirstOf : (Place → DataFault → Type 0) → DataFault → Type 0
-IsFirstOf Stands f = (p : Place) × Stands p f × ((q : Place) (g : DataFault) → Stands q g → ((p ≡ q) × (f ≡ g)) ⊎ IsBefore p q)
+abbrev pub IsFirstOf : {F : Type 0} → (Place → F → Type 0) → F → Type 0
+IsFirstOf {F} Stands f = (p : Place) × Stands p f × ((q : Place) (g : F) → Stands q g → ((p ≡ q) × (f ≡ g)) ⊎ IsBefore p q)
 
 -- the first fault of a node as data of a type
 abbrev pub IsFirstFault : Ty → Node → DataFault → Type 0
