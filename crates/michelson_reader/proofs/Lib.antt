@@ -41,6 +41,16 @@ pub mod SoundTypes
 pub mod SoundCode
 pub mod SoundParameter
 pub mod SoundScript
+pub mod FirstAtFault
 pub mod OperandFaults
 pub mod TypeAnswers
 pub mod MissingForms
+pub mod FirstParts
+pub mod FormShapes
+pub mod RolesTold
+pub mod TypesTold
+pub mod PushedTold
+pub mod CodeTold
+pub mod ParameterTold
+pub mod SectionsTold
+pub mod ToldFirst

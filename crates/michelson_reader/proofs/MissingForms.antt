@@ -12,10 +12,11 @@ use Rattle.michelson_code.specs.declared.instr.Instr.{Instr}
 use Rattle.michelson_code.specs.declared.instr.Instr.TheVariants as instr
 use Rattle.michelson_code.specs.Forms.{Form}
 use Rattle.michelson_reader.specs.CodeFaults.{alone, applied, code_read, entry, first_found, instruction_read, number, pushed, with_one, with_two}
-use Rattle.michelson_reader.specs.FirstAtFault.{HasNoForm, fault_in}
+use Rattle.michelson_reader.specs.FaultyNodes.{HasNoForm}
 use Rattle.michelson_reader.specs.Names.{forms_of_body, forms_of_number, forms_of_two_bodies, forms_of_type, named, plain_forms}
 use Rattle.michelson_reader.specs.Returned.{each, read_of}
 use Rattle.michelson_reader.specs.TypeFaults.{Read, no_form, then_read, type_read}
+use Rattle.michelson_reader.proofs.FirstAtFault.{fault_in}
 use Rattle.michelson_reader.proofs.NodeReads.{code_seq, instruction_prim}
 use Rattle.michelson_reader.proofs.WordLaws.{AloneForms, AnEntry, NotAlone, NotWithOne, NotWithTwo, OneForms, Plain, TwoForms, WithBodies, WithBody, WithData, WithEntry, WithNumberAndBody, WithType, WithTypes, alone_forms, one_forms, two_forms, with_number}
 

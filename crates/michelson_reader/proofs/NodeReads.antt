@@ -67,10 +67,10 @@ number_prim at least n name notes args e = let shown : out-Body n.body ≡ one.P
 abbrev FoundWord : Type 0
 FoundWord = Option (ℕ × List ℕ)
 
-abbrev found_in_body : Body → ℕ → FoundWord
+abbrev pub found_in_body : Body → ℕ → FoundWord
 found_in_body = fold-Body (ℕ → FoundWord) FoundWord left_out_at (λ n. n.body n.at)
 
-abbrev words_in : Body-F Body Node → Body-F (ℕ → FoundWord) FoundWord
+abbrev pub words_in : Body-F Body Node → Body-F (ℕ → FoundWord) FoundWord
 words_in = map-Body Body Node (ℕ → FoundWord) FoundWord found_in_body left_out_in
 
 one_node : Node → Node-F Body Node

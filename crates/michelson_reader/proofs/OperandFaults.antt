@@ -11,9 +11,9 @@ use Rattle.michelson_code.specs.declared.instr.Instr.TheVariants as instr
 use Rattle.michelson_code.specs.declared.instr.Instr.TheViews.{out-Instr}
 use Rattle.michelson_code.specs.Forms.{Operand, form_at, form_of}
 use Rattle.michelson_reader.specs.CodeFaults.{alone, applied, code_read, entry, first_found, instruction_read, number, pushed, with_one, with_two}
-use Rattle.michelson_reader.specs.FirstAtFault.{fault_in, first_at_fault}
 use Rattle.michelson_reader.specs.Returned.{read_of}
 use Rattle.michelson_reader.specs.TypeFaults.{Read, then_read, type_read}
+use Rattle.michelson_reader.proofs.FirstAtFault.{fault_in, first_at_fault}
 use Rattle.michelson_reader.proofs.NodeReads.{instruction_prim}
 
 -- ---- the faults of one read, of two, and of data at a type that is read

@@ -4,14 +4,18 @@ pub mod Code
 pub mod Entries
 pub mod Script
 pub mod Names
-pub mod TypeFaults
-pub mod CodeFaults
-pub mod FirstAtFault
-pub mod ScriptFaults
+pub mod FaultyNodes
+pub mod FaultySections
+pub mod PushedFault
+pub mod Roles
+pub mod FirstFault
 pub mod Answers
 pub mod Printed
 pub mod Lines
 -- what functions inside promise each other
+pub mod TypeFaults
+pub mod CodeFaults
+pub mod ScriptFaults
 pub mod Printing
 pub mod Makers
 pub mod Operands

@@ -1,18 +1,19 @@
-//! What is true of the texts of scripts, and of the faults of instructions.
+//! What is true of the texts of scripts, and of their faults.
 
-ghost use Rattle.std.specs.Prelude.{◌≡◌, ℕ, IsTrue, List, length, map};
-ghost use Rattle.micheline_text.specs.declared.node.Body.TheVariants as body;
+ghost use Rattle.std.specs.Prelude.{◌≡◌, ℕ, ◌↔◌, Err, IsTrue, List};
 ghost use Rattle.micheline_text.specs.declared.node.Node.{Node};
-ghost use Rattle.michelson_code.specs.declared.instr.Instr.{Instr};
 ghost use Rattle.michelson_code.specs.declared.script.Script as declared;
-ghost use Rattle.michelson_code.specs.Forms.{form_of};
 ghost use Rattle.michelson_code.specs.Lawful.{is_lawful_script};
 ghost use Rattle.michelson_code.specs.Printable.{IsPrintableScript};
-ghost use Rattle.michelson_reader.specs.CodeFaults.{code_read, first_found, instruction_read};
-ghost use Rattle.michelson_reader.specs.FirstAtFault.{HasNoForm, fault_in, first_at_fault};
+ghost use Rattle.data_nodes.specs.FirstFault.{Place};
+ghost use Rattle.michelson_reader.specs.declared.fault.ReadFault.{ReadFault};
+ghost use Rattle.michelson_reader.specs.CodeFaults.{code_read, instruction_read};
+ghost use Rattle.michelson_reader.specs.FirstFault.{IsFirstFault, IsScriptFault, StandsInScript};
 ghost use Rattle.michelson_reader.specs.Printed.{script_text};
-ghost use Rattle.michelson_reader.specs.Script.{IsScriptOf};
-ghost use Rattle.michelson_reader.specs.TypeFaults.{no_form};
+ghost use Rattle.michelson_reader.specs.Roles.{AsCode, AsInstruction, AsType};
+ghost use Rattle.michelson_reader.specs.Script.{AreSections, IsScriptOf, unbraced};
+ghost use Rattle.michelson_reader.specs.ScriptFaults.{script_read};
+ghost use Rattle.michelson_reader.specs.TypeFaults.{type_read};
 
 /// A text spells at most one script.
 pub fn a_text_spells_one_script()
@@ -28,21 +29,20 @@ pub fn two_scripts_never_share_a_text()
         script_text s ≡ script_text t → s ≡ t }
 {}
 
-/// Of an instruction with as many arguments as the table of forms has operands, the fault of the
-/// first one from the left is told that isn't what stands there in the table; where no form has as
-/// many, the word itself is told.
-pub fn the_first_operand_at_fault_is_told()
-    ensures operands { (i : Instr) (n : Node) (notes : List (List ℕ)) (args : List Node) →
-        n.body ≡ body.Prim (form_of i).word notes args →
-        length args ≡ length (form_of i).operands →
-        fault_in (instruction_read n) ≡ first_at_fault n.at notes (form_of i) args }
-    ensures word { (n : Node) (name : List ℕ) (notes : List (List ℕ)) (args : List Node) →
-        n.body ≡ body.Prim name notes args → HasNoForm name (length args) →
-        instruction_read n ≡ no_form n.at name }
-{}
-
-/// Of a code, the fault of the first instruction from the left is told that has one.
-pub fn the_first_instruction_at_fault_is_told()
-    ensures { (n : Node) (nodes : List Node) → n.body ≡ body.Seq nodes →
-        fault_in (code_read n) ≡ first_found (map (λ m. fault_in (instruction_read m)) nodes) }
+/// What a reader from the left comes upon is the fault that stands before all others: in a node that
+/// is read as a type, as an instruction or as a code, and in nodes that are read as a script. Nodes
+/// have one such fault at most, and those of a script have none.
+pub fn the_first_fault_of_a_script_is_told()
+    ensures of_type { (n : Node) (f : ReadFault) →
+        (type_read n ≡ Err f) ↔ IsFirstFault AsType n f }
+    ensures of_instruction { (n : Node) (f : ReadFault) →
+        (instruction_read n ≡ Err f) ↔ IsFirstFault AsInstruction n f }
+    ensures of_code { (n : Node) (f : ReadFault) →
+        (code_read n ≡ Err f) ↔ IsFirstFault AsCode n f }
+    ensures told { (end : ℕ) (ns : List Node) (f : ReadFault) →
+        (script_read end ns ≡ Err f) ↔ IsScriptFault end ns f }
+    ensures one { (end : ℕ) (ns : List Node) (f g : ReadFault) →
+        IsScriptFault end ns f → IsScriptFault end ns g → f ≡ g }
+    ensures none { (end : ℕ) (ns : List Node) (s : declared.Script) → AreSections (unbraced ns) s →
+        (p : Place) (f : ReadFault) → StandsInScript end (unbraced ns) p f → ⊥ }
 {}

@@ -14,8 +14,8 @@
 //! - `fault`: why bytes are no script, and where that is told.
 //!
 //! The grammar (`specs/Code.antt`) and the printer take the table of forms of `michelson_code`,
-//! which also says which scripts are read again as they are printed. `specs/*Faults.antt` read from
-//! the left, and say which fault is told. Recursion goes as deep as nodes are nested.
+//! which also says which scripts are read again as they are printed. Which fault is told is said by
+//! where it stands (`specs/FirstFault.antt`); `specs/*Faults.antt` read from the left. Recursion goes as deep as nodes are nested.
 #![tactic(auto)]
 
 mod code;
@@ -46,8 +46,7 @@ mod words;
 pub use data_nodes::{DataFault, DataKind, DataRefusal, print_data, read_data, read_storage};
 pub use fault::ReadFault;
 pub use laws::{
-    a_text_spells_one_script, the_first_instruction_at_fault_is_told,
-    the_first_operand_at_fault_is_told, two_scripts_never_share_a_text,
+    a_text_spells_one_script, the_first_fault_of_a_script_is_told, two_scripts_never_share_a_text,
 };
 pub use printer::print_script;
 pub use script::read_script;

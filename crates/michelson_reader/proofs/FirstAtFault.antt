@@ -1,17 +1,13 @@
--- Which fault of an instruction is told, by the table of forms: the first operand at fault, whatever the word, or the word itself.
-use Rattle.std.specs.Prelude.{◌≡◌, ℕ, length, List, [], ◌∷◌, Option, None, Some, Ok, Err}
+-- Which fault of an instruction is told, by the table of forms: that of the first operand at fault, whatever the word.
+use Rattle.std.specs.Prelude.{ℕ, List, [], ◌∷◌, Option, None, Some, Ok, Err}
 use Rattle.value_core.specs.declared.ty.Ty.{Ty}
 use Rattle.micheline_text.specs.declared.node.Node.{Node}
 use Rattle.michelson_code.specs.declared.instr.Instr.{Instr}
-use Rattle.michelson_code.specs.Forms.{Form, Operand, ANumber, AType, SomeData, ACode, form_of}
+use Rattle.michelson_code.specs.Forms.{Form, Operand, ANumber, AType, SomeData, ACode}
 use Rattle.michelson_reader.specs.declared.fault.ReadFault.{ReadFault}
 use Rattle.michelson_reader.specs.declared.fault.ReadFault.TheVariants as fault
 use Rattle.michelson_reader.specs.CodeFaults.{code_read, entry, first_found, number, pushed}
 use Rattle.michelson_reader.specs.TypeFaults.{Read, then_read, type_read}
-
--- no form of the word has so many operands
-abbrev pub HasNoForm : List ℕ → ℕ → Type 0
-HasNoForm name count = (i : Instr) → (form_of i).word ≡ name → length (form_of i).operands ≡ count → ⊥
 
 -- what is wrong, where something is
 abbrev pub fault_in : {A : Type 0} → Read A → Option ReadFault
