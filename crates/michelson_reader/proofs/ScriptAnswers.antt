@@ -18,6 +18,7 @@ use Rattle.michelson_reader.specs.ScriptFaults.{script_read}
 use Rattle.michelson_reader.proofs.ReadLaws.{script-read}
 use Rattle.michelson_reader.proofs.NodeFaults.{no_text_fault}
 use Rattle.michelson_reader.proofs.ReadLemmas.{same_read}
+use Rattle.michelson_reader.proofs.ToldFirst.{script_fault}
 
 -- ---- nodes that are written for a script
 
@@ -52,7 +53,7 @@ module _ (bytes : List ℕ) (nodes given : List Node) (same : given ≡ nodes) w
   fault_of_nodes : (e : ReadFault) → IsTextOf bytes nodes → script_read (length bytes) given ≡ Err e → IsReadFault bytes e
   fault_of_nodes fault.NoMemory spelt is = tt
   fault_of_nodes (fault.Text f) spelt is = absurd (no_text_fault (length bytes) given f is)
-  fault_of_nodes e spelt is = (nodes, spelt, ap (script_read (length bytes)) (sym same) ∙ is)
+  fault_of_nodes e spelt is = (nodes, spelt, (script_fault (length bytes) nodes e).0 (ap (script_read (length bytes)) (sym same) ∙ is))
 
   pub told_fault : (told : Result Script ReadFault) → IsTextOf bytes nodes → Answers (λ s. s) (script_read (length bytes) given) told → IfErr told (IsReadFault bytes)
   told_fault (Ok s) spelt e = tt

@@ -27,10 +27,6 @@ only n (Ok u) t answers written = let read : type_read n ≡ Ok t = (type-read n
 only n (Err e) t (inl full) written = full
 only n (Err e) t (inr refused) written = let read : type_read n ≡ Ok t = (type-read n t).1 written in absurd cc
 
-pub told : (n : Node) (r : Result Ty ReadFault) → Answers (λ t. t) (type_read n) r → IfErr r (λ e. (e ≡ fault.NoMemory) ⊎ (type_read n ≡ Err e))
-told n (Ok t) answers = tt
-told n (Err e) answers = answers
-
 -- a text of the node of a type is one of the type
 pub again : (text : List ℕ) (t : Ty) (n : Node) → n ≡ type_node t →
     (IsTrue (is_well_named n) → brackets n ≤ 256 → IsTextOfOne text n) → depth_of_type t ≤ 258 → IsTypeText text t

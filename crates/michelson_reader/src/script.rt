@@ -162,7 +162,7 @@ pub fn read_script(alloc: Global, b: &[u8]) -> Result<Script, ReadFault>
     ensures found { IfOk result (λ s. IsScriptOf b.now s) }
     // A text of a script is read, unless memory runs out.
     ensures only { (s : declared.Script) → IsScriptOf b.now s → Gives s result }
-    // A fault is one of the text, or else the leftmost of its nodes.
+    // A fault is one of the text, or else the first one of its nodes.
     ensures fault { IfErr result (IsReadFault b.now) }
 {
     let nodes = read_nodes(alloc, b)?;

@@ -1,12 +1,13 @@
 //! A type by itself: read from a node, and printed.
 
-ghost use Rattle.std.specs.Prelude.{◌≡◌, ◌≤◌, ◌⊎◌, Err, IfErr, IfOk, IsTrue};
+ghost use Rattle.std.specs.Prelude.{◌≡◌, ◌≤◌, ◌⊎◌, IfErr, IfOk, IsTrue};
 ghost use Rattle.value_core.specs.declared.ty.Ty as declared;
 ghost use Rattle.value_core.specs.Depth.{depth_of_type};
 ghost use Rattle.micheline_text.specs.Printed.{printed};
 ghost use Rattle.michelson_reader.specs.Answers.{Gives};
+ghost use Rattle.michelson_reader.specs.FirstFault.{IsFirstFault};
 ghost use Rattle.michelson_reader.specs.Printed.{type_node};
-ghost use Rattle.michelson_reader.specs.TypeFaults.{type_read};
+ghost use Rattle.michelson_reader.specs.Roles.{AsType};
 ghost use Rattle.michelson_reader.specs.Types.{IsTypeText, is_type};
 ghost use Rattle.michelson_reader.specs.declared.fault.ReadFault.TheVariants.{NoMemory};
 
@@ -23,8 +24,8 @@ pub fn read_type(alloc: Global, n: &Node) -> Result<Ty, ReadFault>
     ensures found { IfOk result (λ t. IsTrue (is_type t n.now)) }
     // A node that is written for a type is read, unless memory runs out.
     ensures only { (t : declared.Ty) → IsTrue (is_type t n.now) → Gives t result }
-    // A fault is the leftmost one in the node.
-    ensures fault { IfErr result (λ f. (f ≡ NoMemory) ⊎ (type_read n.now ≡ Err f)) }
+    // A fault is the first one in the node.
+    ensures fault { IfErr result (λ f. (f ≡ NoMemory) ⊎ IsFirstFault AsType n.now f) }
 {
     types::read_type(alloc, n)
 }
