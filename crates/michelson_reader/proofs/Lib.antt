@@ -54,3 +54,4 @@ pub mod CodeTold
 pub mod ParameterTold
 pub mod SectionsTold
 pub mod ToldFirst
+mod OneReading

@@ -1,4 +1,4 @@
--- What is read of nodes is never told as a fault of the text itself.
+-- What is read of nodes is never told as a fault of the text itself, nor as want of memory.
 use Rattle.std.proofs.Common.{◌≡◌, ℕ, Bool, true, false, List, [], ◌∷◌, map, Option, None, Some, Result, Ok, Err, refl, sym, subst}
 use Rattle.std.specs.Prelude.{pos, ◌&&◌, codes, int_le, nat_abs, nat_le, if◌then◌else◌}
 use Rattle.std.specs.Option.{option_map_or}
@@ -34,6 +34,7 @@ use Rattle.michelson_reader.proofs.TypeLevels.{read_parts, type_read-level}
 
 abbrev pub IsOfNodes : ReadFault → Type 0
 IsOfNodes (fault.Text f) = ⊥
+IsOfNodes fault.NoMemory = ⊥
 IsOfNodes _ = Unit {0}
 
 -- no fault of the text is told
@@ -217,5 +218,5 @@ sections_free end s [] = all_three_free end s.parameter s.storage s.code
 sections_free end s (n ∷ ns) = then_free (section_body n.at (out-Body n.body) s) (λ more. sections end more ns) (section_body_free n.at (out-Body n.body) s) (λ more. sections_free end more ns)
 
 -- a script that can't be read of nodes isn't told as a fault of the text
-pub no_text_fault : (end : ℕ) (ns : List Node) (f : TextFault) → script_read end ns ≡ Err (fault.Text f) → ⊥
-no_text_fault end ns f e = subst (λ (r : Read Script). IsFree r) e (sections_free end _ (unbraced ns))
+pub of_nodes : (end : ℕ) (ns : List Node) (f : ReadFault) → script_read end ns ≡ Err f → IsOfNodes f
+of_nodes end ns f e = subst (λ (r : Read Script). IsFree r) e (sections_free end _ (unbraced ns))

@@ -16,7 +16,7 @@ use Rattle.michelson_reader.specs.Returned.{Answers, Refuses, of_text}
 use Rattle.michelson_reader.specs.Script.{AreSections, IsScriptOf, unbraced}
 use Rattle.michelson_reader.specs.ScriptFaults.{script_read}
 use Rattle.michelson_reader.proofs.ReadLaws.{script-read}
-use Rattle.michelson_reader.proofs.NodeFaults.{no_text_fault}
+use Rattle.michelson_reader.proofs.NodeFaults.{of_nodes}
 use Rattle.michelson_reader.proofs.ReadLemmas.{same_read}
 use Rattle.michelson_reader.proofs.ToldFirst.{script_fault}
 
@@ -50,9 +50,9 @@ module _ (bytes : List ℕ) (nodes given : List Node) (same : given ≡ nodes) w
   told_only (Ok read) only e s is = only_script (length bytes) is.0 given s is.2 (same_nodes only is.0 is.1) read e
   told_only (Err e) only refused s is = no_fault (length bytes) is.0 given s is.2 (same_nodes only is.0 is.1) e refused
 
-  fault_of_nodes : (e : ReadFault) → IsTextOf bytes nodes → script_read (length bytes) given ≡ Err e → IsReadFault bytes e
+  pub fault_of_nodes : (e : ReadFault) → IsTextOf bytes nodes → script_read (length bytes) given ≡ Err e → IsReadFault bytes e
   fault_of_nodes fault.NoMemory spelt is = tt
-  fault_of_nodes (fault.Text f) spelt is = absurd (no_text_fault (length bytes) given f is)
+  fault_of_nodes (fault.Text f) spelt is = absurd (of_nodes (length bytes) given (fault.Text f) is)
   fault_of_nodes e spelt is = (nodes, spelt, (script_fault (length bytes) nodes e).0 (ap (script_read (length bytes)) (sym same) ∙ is))
 
   pub told_fault : (told : Result Script ReadFault) → IsTextOf bytes nodes → Answers (λ s. s) (script_read (length bytes) given) told → IfErr told (IsReadFault bytes)

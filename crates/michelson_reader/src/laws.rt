@@ -1,12 +1,14 @@
 //! What is true of the texts of scripts, and of their faults.
 
-ghost use Rattle.std.specs.Prelude.{◌≡◌, ℕ, ◌↔◌, Err, IsTrue, List};
+ghost use Rattle.std.specs.Prelude.{◌≡◌, ◌≢◌, ◌⊎◌, ℕ, ◌↔◌, Err, IsTrue, List};
 ghost use Rattle.micheline_text.specs.declared.node.Node.{Node};
 ghost use Rattle.michelson_code.specs.declared.script.Script as declared;
 ghost use Rattle.michelson_code.specs.Lawful.{is_lawful_script};
 ghost use Rattle.michelson_code.specs.Printable.{IsPrintableScript};
 ghost use Rattle.data_nodes.specs.FirstFault.{Place};
+ghost use Rattle.michelson_reader.specs.Answers.{IsReadFault};
 ghost use Rattle.michelson_reader.specs.declared.fault.ReadFault.{ReadFault};
+ghost use Rattle.michelson_reader.specs.declared.fault.ReadFault.TheVariants.{NoMemory};
 ghost use Rattle.michelson_reader.specs.CodeFaults.{code_read, instruction_read};
 ghost use Rattle.michelson_reader.specs.FirstFault.{IsFirstFault, IsScriptFault, StandsInScript};
 ghost use Rattle.michelson_reader.specs.Printed.{script_text};
@@ -15,11 +17,26 @@ ghost use Rattle.michelson_reader.specs.Script.{AreSections, IsScriptOf, unbrace
 ghost use Rattle.michelson_reader.specs.ScriptFaults.{script_read};
 ghost use Rattle.michelson_reader.specs.TypeFaults.{type_read};
 
+use micheline_text::bytes_are_a_text_or_have_one_fault;
+
 /// A text spells at most one script.
 pub fn a_text_spells_one_script()
     ensures { (bytes : List ℕ) (s t : declared.Script) →
         IsScriptOf bytes s → IsScriptOf bytes t → s ≡ t }
 {}
+
+/// Any bytes are the text of a script or have a fault, never both, and one fault at most; want of
+/// memory is none.
+pub fn bytes_are_a_script_or_have_one_fault()
+    ensures either { (bytes : List ℕ) → ((s : declared.Script) × IsScriptOf bytes s)
+        ⊎ ((f : ReadFault) × (IsReadFault bytes f × (f ≢ NoMemory))) }
+    ensures never_both { (bytes : List ℕ) (s : declared.Script) (f : ReadFault) →
+        IsScriptOf bytes s → IsReadFault bytes f → f ≢ NoMemory → ⊥ }
+    ensures one_fault { (bytes : List ℕ) (f g : ReadFault) →
+        IsReadFault bytes f → IsReadFault bytes g → f ≢ NoMemory → g ≢ NoMemory → f ≡ g }
+{
+    bytes_are_a_text_or_have_one_fault();
+}
 
 /// Two scripts that are read again as they are printed never share a text.
 pub fn two_scripts_never_share_a_text()
