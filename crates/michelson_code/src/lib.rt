@@ -53,8 +53,9 @@ pub use entries::type_at;
 pub use instr::{Code, Instr};
 pub use lawfulness::script_is_lawful;
 pub use laws::{
-    a_wrapped_param_has_the_type_of_the_whole, an_instruction_weighs_and_counts_its_bodies,
-    codes_one_after_another_add_up, instructions_that_are_written_alike_are_equal,
+    a_code_weighs_at_most_ten_times_its_count, a_wrapped_param_has_the_type_of_the_whole,
+    an_instruction_weighs_and_counts_its_bodies, codes_one_after_another_add_up,
+    instructions_that_are_written_alike_are_equal,
 };
 pub use operands::{Level, Line, Part, Slot, Slots, lines_of};
 pub use printable::{are_entries_of, is_count, is_printable, is_pushed};
@@ -64,8 +65,9 @@ pub use table::{Form, Operand, Operands, cost, form_of};
 pub use type_fault::TypeKind;
 pub use typed::Typed;
 pub use typing_laws::{
-    a_code_has_one_outcome, a_script_has_one_fault, a_typed_instruction_finds_its_operands,
-    a_typed_script_has_no_fault, a_typed_script_is_read_again, an_instruction_leaves_one_stack,
+    a_code_has_one_outcome, a_script_has_one_fault, a_script_is_typed_or_has_a_fault,
+    a_typed_instruction_finds_its_operands, a_typed_script_has_no_fault,
+    a_typed_script_is_read_again, a_typed_script_is_short, an_instruction_leaves_one_stack,
     operands_are_found_or_not, the_counter_is_typed, what_follows_a_code_begins_where_it_ends,
 };
 pub use weighing::{count, weight};
