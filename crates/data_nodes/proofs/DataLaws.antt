@@ -1,31 +1,27 @@
 -- A value is read exactly where a node is data: the value is the one that is said.
-use Rattle.std.proofs.Common.{◌≡◌, ◌≤◌, Bool, true, Ok, Err, Result, refl, sym, ap, subst, ◌∙◌}
+use Rattle.std.proofs.Common.{◌≡◌, ◌≤◌, Bool, Ok, Err, Result, refl, sym, ap, subst, ◌∙◌}
 use Rattle.std.specs.Prelude.{IfOk, IfErr, ◌↔◌, if◌then◌else◌, nat_le}
 use Rattle.std.proofs.lemmas.Bool.{and_from, and_parts, le-leb, leb-true}
 use Rattle.value_core.specs.declared.ty.Ty.{Ty}
 use Rattle.value_core.specs.declared.ty.Ty.TheViews.{out-Ty}
 use Rattle.value_core.specs.declared.val.Val.{Val}
-use Rattle.value_core.specs.declared.val.Val.TheOpen as one
 use Rattle.value_core.specs.declared.val.Val.TheViews.{out-Val, roll-Val}
 use Rattle.value_core.specs.Layer.{Layer, on_parts, parts_of}
-use Rattle.value_core.specs.Lawful.{is_lawful, is_lawful_level}
 use Rattle.value_core.specs.Size.{size_of}
 use Rattle.value_core.specs.Sound.{is_sound, is_sound_level}
 use Rattle.value_core.specs.Typed.{fits, fits_level}
 use Rattle.value_core.proofs.Levels.{Each, by_level-roll, induction, out-roll, roll-out}
 use Rattle.value_core.proofs.Everywhere.{everywhere-is, everywhere-roll}
-use Rattle.value_core.proofs.PlainTyped.{everywhere-joins}
 pub use Rattle.value_core.proofs.TypeEquations.{fits-is}
 use Rattle.micheline_text.specs.declared.node.Node.{Node}
 use Rattle.micheline_text.specs.declared.node.Body.TheViews.{out-Body}
 use Rattle.data_nodes.specs.declared.fault.DataRefusal.{DataRefusal}
-use Rattle.data_nodes.specs.declared.fault.DataRefusal.TheVariants.{Fault, NoMemory}
-use Rattle.data_nodes.specs.Addressed.{has_addresses, is_addressed_level, is_good, is_good_level}
 use Rattle.data_nodes.specs.Nodes.{Test}
 use Rattle.data_nodes.specs.Data.{IsData, is_written, written_level}
 use Rattle.data_nodes.specs.Readers.{Reader}
 use Rattle.data_nodes.specs.Faults.{data_read, storage_read, value_at}
-use Rattle.data_nodes.specs.Answers.{Answers, Gives, Refuses}
+use Rattle.micheline_text.specs.Told.{AnswersUnlessFull, IsTold}
+use Rattle.data_nodes.specs.Told.{node_fault}
 use Rattle.data_nodes.proofs.NodeLevels.{reader-level, readers}
 use Rattle.data_nodes.proofs.ItemLaws.{Agree, Said, if_ok, then_ok}
 use Rattle.data_nodes.proofs.LevelsWritten.{read_level}
@@ -42,7 +38,7 @@ written-roll x n = ap (λ (f : Test). f n) (by_level-roll {A = Test} written_lev
 
 said_of_row : (t : Ty) (n : Node) (v : Val) → Row n (out-Ty t) v → Said t n v
 said_of_row t n v r = record {
-  sound = ap is_good (sym r.is) ∙ everywhere-roll is_good_level r.level ∙ and_from _ _ r.good r.parts;
+  sound = ap is_sound (sym r.is) ∙ everywhere-roll is_sound_level r.level ∙ and_from _ _ r.good r.parts;
   fit = ap (λ (w : Val). fits w t) (sym r.is) ∙ fits-roll r.level t ∙ r.fit;
   written = ap (λ (w : Val). is_written w n) (sym r.is) ∙ written-roll r.level n ∙ r.written;
 }
@@ -55,8 +51,8 @@ here t n = ap (λ (r : Reader). r.value t) (reader-level n)
 
 said_read : (t : Ty) (n : Node) (v : Val) → Each Agree (parts_of (out-Val v)) → Said t n v → storage_read t n ≡ Ok v
 said_read t n v h s =
-    let good = sym (everywhere-is is_good_level v) ∙ s.sound in
-    here t n ∙ read_level t n (out-Val v) (out-Ty t) refl h (and_parts (is_good_level (out-Val v)) _ good).0 (and_parts (is_good_level (out-Val v)) _ good).1
+    let good = sym (everywhere-is is_sound_level v) ∙ s.sound in
+    here t n ∙ read_level t n (out-Val v) (out-Ty t) refl h (and_parts (is_sound_level (out-Val v)) _ good).0 (and_parts (is_sound_level (out-Val v)) _ good).1
     (sym (fits-is v t) ∙ s.fit) (sym (ap (λ (f : Test). f n) (written-is v)) ∙ s.written) ∙ ap (λ (w : Val). Ok w) (roll-out v)
 
 agree : (v : Val) → Agree v
@@ -67,33 +63,17 @@ agree = induction Agree (λ v h t n. record {
 
 -- ---- the two laws
 
-good_is : (v : Val) → is_sound v ≡ true → has_addresses v ≡ true → is_good v ≡ true
-good_is = everywhere-joins is_sound_level is_addressed_level is_good_level (λ x p q. and_from _ _ p q)
-
-good_sound : (v : Val) → is_good v ≡ true → is_sound v ≡ true
-good_sound v g = everywhere-joins is_good_level is_good_level is_sound_level (λ x p q. (and_parts (is_sound_level x) _ p).0) v g g
-
-good_addresses : (v : Val) → is_good v ≡ true → has_addresses v ≡ true
-good_addresses v g = everywhere-joins is_good_level is_good_level is_addressed_level (λ x p q. (and_parts (is_sound_level x) _ p).1) v g g
-
--- each address in a lawful value is one
-lawful_addressed : (x : Layer Val) → is_lawful_level x ≡ true → is_addressed_level x ≡ true
-lawful_addressed (one.Addr address) lawful = (and_parts _ _ lawful).0
-lawful_addressed _ lawful = refl
-
-pub lawful_addresses : (v : Val) → is_lawful v ≡ true → has_addresses v ≡ true
-lawful_addresses v h = everywhere-joins is_lawful_level is_lawful_level is_addressed_level (λ x p q. lawful_addressed x p) v h h
-
 -- what is read is data of the type
 pub read_is_data : (t : Ty) (n : Node) (v : Val) → storage_read t n ≡ Ok v → IsData t n v
 read_is_data t n v r =
     let s = (agree v t n).said r in
-    (and_from (is_sound v) _ (good_sound v s.sound) s.fit, s.written, good_addresses v s.sound)
+    (and_from (is_sound v) _ s.sound s.fit, s.written)
 
 -- data of the type is read
 pub data_is_read : (t : Ty) (n : Node) (v : Val) → IsData t n v → storage_read t n ≡ Ok v
 data_is_read t n v d =
-    (agree v t n).read (record { sound = good_is v (and_parts (is_sound v) _ d.0).0 d.2; fit = (and_parts (is_sound v) _ d.0).1; written = d.1 })
+    let value = and_parts (is_sound v) _ d.0 in
+    (agree v t n).read (record { sound = value.0; fit = value.1; written = d.1 })
 
 -- ---- data that isn't too large
 
@@ -117,15 +97,13 @@ data-read n t v = (
 
 -- ---- what a call answered
 
-pub data_found : (t : Ty) (n : Node) (r : Result Val DataRefusal) → Answers (λ v. v) (data_read t n) r → IfOk r (λ v. IsData t n v × (size_of v ≤ 4096))
+pub data_found : (t : Ty) (n : Node) (r : Result Val DataRefusal) → AnswersUnlessFull node_fault (λ v. v) r (data_read t n) → IfOk r (λ v. IsData t n v × (size_of v ≤ 4096))
 data_found t n (Ok v) a = (data-read n t v).0 a
 data_found t n (Err e) a = tt
 
-pub data_only : (t : Ty) (n : Node) (r : Result Val DataRefusal) → Answers (λ v. v) (data_read t n) r → (v : Val) → IsData t n v → size_of v ≤ 4096 → Gives v r
-data_only t n (Ok w) a v d small = let read = small_read t n v d small in cc
-data_only t n (Err NoMemory) a v d small = tt
-data_only t n (Err (Fault f)) a v d small = let read = small_read t n v d small in absurd cc
+pub data_only : (t : Ty) (n : Node) (r : Result Val DataRefusal) → AnswersUnlessFull node_fault (λ v. v) r (data_read t n) → (v : Val) → IsData t n v → size_of v ≤ 4096 → AnswersUnlessFull node_fault (λ v. v) r (Ok v)
+data_only t n r a v d small = subst (AnswersUnlessFull node_fault (λ v. v) r) (small_read t n v d small) a
 
-pub data_fault : (t : Ty) (n : Node) (r : Result Val DataRefusal) → Answers (λ v. v) (data_read t n) r → IfErr r (Refuses (data_read t n))
+pub data_fault : (t : Ty) (n : Node) (r : Result Val DataRefusal) → AnswersUnlessFull node_fault (λ v. v) r (data_read t n) → IfErr r (λ e. IsTold (node_fault e) (data_read t n))
 data_fault t n (Ok v) a = tt
 data_fault t n (Err e) a = a

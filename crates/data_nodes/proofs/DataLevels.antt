@@ -12,7 +12,7 @@ use Rattle.value_core.specs.Sound.{is_settled_level, is_sound_level}
 use Rattle.value_core.proofs.Everywhere.{everywhere-is}
 use Rattle.value_core.proofs.PlainTyped.{everywhere-joins}
 use Rattle.value_core.specs.BigMaps.{is_no_big_map}
-use Rattle.data_nodes.specs.Printed.{is_printable}
+use Rattle.data_nodes.specs.Printed.{is_printed_whole}
 
 -- one level of a value that is written as data
 abbrev pub is_data_level : Layer Val → Bool
@@ -31,8 +31,8 @@ level_joins (one.Operation emit) plain whole = (and_parts _ _ plain).1
 level_joins _ plain whole = refl
 
 -- what is printable is data at each level
-pub printable_is_data : (v : Val) → is_printable v ≡ true → is_data v ≡ true
-printable_is_data v h =
+pub printed_whole_is_data : (v : Val) → is_printed_whole v ≡ true → is_data v ≡ true
+printed_whole_is_data v h =
     let both = and_parts _ _ h in
     everywhere-joins (λ x. is_sound_level x && is_settled_level x) is_no_big_map is_data_level level_joins v both.0 both.1
 

@@ -7,8 +7,7 @@ use Rattle.std.proofs.lemmas.Bool.{and_from, and_parts}
 use Rattle.value_core.specs.declared.ty.Ty.{Ty}
 use Rattle.value_core.specs.declared.val.Val.{Val}
 use Rattle.value_core.specs.Layer.{flat}
-use Rattle.value_core.specs.Sound.{ascends}
-use Rattle.data_nodes.specs.Addressed.{is_good}
+use Rattle.value_core.specs.Sound.{ascends, is_sound}
 use Rattle.value_core.specs.Typed.{fits}
 use Rattle.value_core.proofs.Levels.{Each}
 use Rattle.micheline_text.specs.declared.node.Node.{Node}
@@ -28,8 +27,8 @@ module _ (k v : Ty) where
   -- ---- one entry
 
   record EntrySaid (last : Option Val) (b : Body-F Body Node) (e : Val × Val) : Type 0 where
-    key : is_good e.0 ≡ true
-    item : is_good e.1 ≡ true
+    key : is_sound e.0 ≡ true
+    item : is_sound e.1 ≡ true
     fit : (fits e.0 k && fits e.1 v) ≡ true
     written : is_applied_body (codes "Elt") (is_written e.0 ∷ is_written e.1 ∷ []) b ≡ true
     up : is_above last e.0 ≡ true
@@ -101,7 +100,7 @@ module _ (k v : Ty) where
   keys-cons (Some last) e es = refl
 
   pub record AllSaid (last : Option Val) (es : List (Val × Val)) (nodes : List Node) : Type 0 where
-    pub sound : list_all is_good (flat es) ≡ true
+    pub sound : list_all is_sound (flat es) ≡ true
     pub fit : list_all (λ (e : (Ty → Bool) × (Ty → Bool)). e.0 k && e.1 v) (map fitting es) ≡ true
     pub written : all_are (map is_entry (map writing es)) nodes ≡ true
     pub up : keys_above last es ≡ true
@@ -134,17 +133,17 @@ module _ (k v : Ty) where
   entries_read last [] (n ∷ nodes) h a = let none : false ≡ true = a.written in absurd cc
   entries_read last (e ∷ es) [] h a = let none : false ≡ true = a.written in absurd cc
   entries_read last (e ∷ es) (n ∷ nodes) h a =
-      let items = (and_parts (is_good e.0) _ a.sound).1 in
+      let items = (and_parts (is_sound e.0) _ a.sound).1 in
       let up = sym (keys-cons last e es) ∙ a.up in
       let first : (reader n).entry last k v ≡ Ok e = ap (λ (r : Reader). r.entry last k v) (reader-level n) ∙ entry_read n.at last (out-Body n.body) e h.0 h.1.0 (record {
-        key = (and_parts (is_good e.0) _ a.sound).0;
-        item = (and_parts (is_good e.1) _ items).0;
+        key = (and_parts (is_sound e.0) _ a.sound).0;
+        item = (and_parts (is_sound e.1) _ items).0;
         fit = (and_parts (fits e.0 k && fits e.1 v) _ a.fit).0;
         written = (and_parts (is_entry (writing e) n) _ a.written).0;
         up = (and_parts (is_above last e.0) _ up).0;
       }) in
       let others : entries k v (Some e.0) (map reader nodes) ≡ Ok es = entries_read (Some e.0) es nodes h.1.1 (record {
-        sound = (and_parts (is_good e.1) _ items).1;
+        sound = (and_parts (is_sound e.1) _ items).1;
         fit = (and_parts (fits e.0 k && fits e.1 v) _ a.fit).1;
         written = (and_parts (is_entry (writing e) n) _ a.written).1;
         up = (and_parts (is_above last e.0) _ up).1;

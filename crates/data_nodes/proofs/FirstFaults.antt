@@ -26,12 +26,13 @@ use Rattle.data_nodes.specs.declared.fault.DataKind.{DataKind}
 use Rattle.data_nodes.specs.declared.fault.DataKind.TheVariants.{Shape, Range, Order, TooLarge}
 use Rattle.data_nodes.specs.declared.fault.DataRefusal.{DataRefusal}
 use Rattle.data_nodes.specs.declared.fault.DataRefusal.TheVariants.{Fault, NoMemory}
-use Rattle.data_nodes.specs.Answers.{Answers, Tells}
+use Rattle.micheline_text.specs.Told.{AnswersUnlessFull}
+use Rattle.data_nodes.specs.Told.{Tells, node_fault}
 use Rattle.data_nodes.specs.Data.{IsData}
 use Rattle.value_core.specs.Lasts.{is_above}
 use Rattle.data_nodes.specs.Readers.{Read, Reader, ascending, at_second, bytes, comb, entries, fault, is_comb_of, items, made, number, pair, pair_of, string, then_read}
 use Rattle.data_nodes.specs.Faults.{alone, applied, data_read, entry_at, key_and_value, reader, sequence, storage_read, value_at, with_one}
-use Rattle.data_nodes.specs.FirstFault.{IsBefore, IsDataFault, IsFaulty, IsFirstFault, IsFirstOf, IsOutOfOrder, OfType, EntryOf, Part, Place, StandsAt, are_items_of, comb_parts, entry_fault, entry_parts, fault_here, key_here, level_pairs, map_parts, pair_parts, pairs_of, part, parts_here, parts_of, set_parts, unless}
+use Rattle.data_nodes.specs.FirstFault.{IsBefore, IsDataFault, IsFaulty, IsFirstFault, IsFirstOf, IsOutOfOrder, OfType, EntryOf, Part, Place, IsFaultAt, are_items_of, comb_parts, entry_fault, entry_parts, fault_here, key_here, level_pairs, map_parts, pair_parts, pairs_of, part, parts_here, parts_of, set_parts, unless}
 use Rattle.data_nodes.proofs.DataLaws.{data_is_read, read_is_data}
 use Rattle.data_nodes.proofs.ItemLaws.{if_ok, then_ok}
 use Rattle.data_nodes.proofs.NodeInduction as nodes
@@ -42,10 +43,10 @@ use Rattle.data_nodes.proofs.ToldFaults.{InParts, Told, both_told, either_told, 
 -- ---- roles
 
 abbrev AsData : Ty → Option Node → Node → Place → DataFault → Type 0
-AsData t before n p f = StandsAt p (OfType t before) n f
+AsData t before n p f = IsFaultAt p (OfType t before) n f
 
 abbrev AsEntry : Ty → Ty → Option Node → Node → Place → DataFault → Type 0
-AsEntry k v before n p f = StandsAt p (EntryOf k v before) n f
+AsEntry k v before n p f = IsFaultAt p (EntryOf k v before) n f
 
 -- the last value was read of the node before, if there is one
 abbrev IsBehind : Ty → Option Node → Option Val → Type 0
@@ -398,7 +399,7 @@ pub first_is_told : (t : Ty) (n : Node) (f : DataFault) → storage_read t n ≡
 first_is_told t n f e = subst (Told (AsData t None n)) e (told t n)
 
 -- no fault stands anywhere in data
-pub none_in_data : (t : Ty) (n : Node) (v : Val) → IsData t n v → (p : Place) (f : DataFault) → StandsAt p (OfType t None) n f → ⊥
+pub none_in_data : (t : Ty) (n : Node) (v : Val) → IsData t n v → (p : Place) (f : DataFault) → IsFaultAt p (OfType t None) n f → ⊥
 none_in_data t n v data_of = subst (Told (AsData t None n)) (data_is_read t n v data_of) (told t n)
 
 -- ---- one first fault
@@ -450,7 +451,7 @@ one_data_fault t n f g (inr h) (inl k) = absurd (none_in_data t n h.1.0 h.1.1 k.
 one_data_fault t n f g (inr h) (inr k) = h.0 ∙ sym k.0
 
 -- so is what a call answered
-pub answer_fault : (t : Ty) (n : Node) (r : Result Val DataRefusal) → Answers (λ v. v) (data_read t n) r → IfErr r (Tells (IsDataFault t n))
+pub answer_fault : (t : Ty) (n : Node) (r : Result Val DataRefusal) → AnswersUnlessFull node_fault (λ v. v) r (data_read t n) → IfErr r (Tells (IsDataFault t n))
 answer_fault t n (Ok v) a = tt
 answer_fault t n (Err NoMemory) a = tt
 answer_fault t n (Err (Fault f)) a = data_fault_is_told t n f a

@@ -22,8 +22,8 @@ use Rattle.micheline_text.specs.Layout.{AllAre}
 use Rattle.micheline_text.specs.Printed.{Print}
 use Rattle.micheline_text.specs.Fits.{IsName, IsFitLiteral, IsFitArgument, IsFitNode, IsInside, IsPrintable}
 use Rattle.micheline_text.proofs.PrintLemmas.{print_prim}
-use Rattle.data_nodes.specs.Printed.{is_printable, node_of, printed_level}
-use Rattle.data_nodes.proofs.DataLevels.{data_level, is_data, is_data_level, printable_is_data}
+use Rattle.data_nodes.specs.Printed.{is_printed_whole, node_of, printed_level}
+use Rattle.data_nodes.proofs.DataLevels.{data_level, is_data, is_data_level, printed_whole_is_data}
 use Rattle.data_nodes.proofs.WrittenNodes.{nodes_of, pair_node, printed-is}
 
 -- ---- literals
@@ -196,9 +196,9 @@ fits : (v : Val) → Fit v
 fits = induction Fit step
 
 -- it fits as an argument into brackets at least as deep as the value
-pub printed_argument : (v : Val) (d : ℕ) → is_printable v ≡ true → is_lawful v ≡ true → depth_of v ≤ d → IsFitArgument (IsInside d) (node_of v).body
-printed_argument v d printable lawful deep = (fits v d (printable_is_data v printable) lawful deep).argued
+pub printed_argument : (v : Val) (d : ℕ) → is_printed_whole v ≡ true → is_lawful v ≡ true → depth_of v ≤ d → IsFitArgument (IsInside d) (node_of v).body
+printed_argument v d printable lawful deep = (fits v d (printed_whole_is_data v printable) lawful deep).argued
 
 -- and alone
-pub printed_fits : (v : Val) → is_printable v ≡ true → is_lawful v ≡ true → depth_of v ≤ 256 → IsPrintable (node_of v)
-printed_fits v printable lawful deep = (256, omega arith, (fits v 256 (printable_is_data v printable) lawful deep).alone)
+pub printed_fits : (v : Val) → is_printed_whole v ≡ true → is_lawful v ≡ true → depth_of v ≤ 256 → IsPrintable (node_of v)
+printed_fits v printable lawful deep = (256, omega arith, (fits v 256 (printed_whole_is_data v printable) lawful deep).alone)

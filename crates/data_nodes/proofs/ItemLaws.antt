@@ -5,8 +5,7 @@ use Rattle.std.specs.List.{list_all}
 use Rattle.std.proofs.lemmas.Bool.{and_from, and_parts}
 use Rattle.value_core.specs.declared.ty.Ty.{Ty}
 use Rattle.value_core.specs.declared.val.Val.{Val}
-use Rattle.value_core.specs.Sound.{ascends}
-use Rattle.data_nodes.specs.Addressed.{is_good}
+use Rattle.value_core.specs.Sound.{ascends, is_sound}
 use Rattle.value_core.specs.Typed.{fits}
 use Rattle.value_core.proofs.Levels.{Each}
 use Rattle.micheline_text.specs.declared.node.Node.{Node}
@@ -35,7 +34,7 @@ if_ok false r e a h = absurd cc
 
 -- data of the type, with good addresses, test by test
 pub record Said (t : Ty) (n : Node) (v : Val) : Type 0 where
-  pub sound : is_good v ≡ true
+  pub sound : is_sound v ≡ true
   pub fit : fits v t ≡ true
   pub written : is_written v n ≡ true
 
@@ -51,7 +50,7 @@ Agree v = (t : Ty) (n : Node) → Agrees t n v
 
 module _ (t : Ty) where
   pub record AllSaid (vs : List Val) (nodes : List Node) : Type 0 where
-    pub sound : list_all is_good vs ≡ true
+    pub sound : list_all is_sound vs ≡ true
     pub fit : list_all (λ (f : Ty → Bool). f t) (map fits vs) ≡ true
     pub written : all_are (map is_written vs) nodes ≡ true
 
@@ -76,9 +75,9 @@ module _ (t : Ty) where
   items_read [] (n ∷ nodes) h a = let none : false ≡ true = a.written in absurd cc
   items_read (v ∷ vs) [] h a = let none : false ≡ true = a.written in absurd cc
   items_read (v ∷ vs) (n ∷ nodes) h a =
-      let first : storage_read t n ≡ Ok v = (h.0 t n).read (record { sound = (and_parts (is_good v) _ a.sound).0; fit = (and_parts (fits v t) _ a.fit).0; written = (and_parts (is_written v n) _ a.written).0 }) in
+      let first : storage_read t n ≡ Ok v = (h.0 t n).read (record { sound = (and_parts (is_sound v) _ a.sound).0; fit = (and_parts (fits v t) _ a.fit).0; written = (and_parts (is_written v n) _ a.written).0 }) in
       let others : items t (map reader nodes) ≡ Ok vs = items_read vs nodes h.1
-      (record { sound = (and_parts (is_good v) _ a.sound).1; fit = (and_parts (fits v t) _ a.fit).1; written = (and_parts (is_written v n) _ a.written).1 }) in
+      (record { sound = (and_parts (is_sound v) _ a.sound).1; fit = (and_parts (fits v t) _ a.fit).1; written = (and_parts (is_written v n) _ a.written).1 }) in
       ap (λ (r : Read Val). then_read r (λ a. then_read (items t (map reader nodes)) (λ xs. Ok (a ∷ xs)))) first ∙ ap (λ (r : Read (List Val)). then_read r (λ xs. Ok (v ∷ xs))) others
 
   -- ---- items above one another

@@ -19,7 +19,7 @@ use Rattle.value_core.specs.declared.val.Val.TheOpen as one
 use Rattle.value_core.specs.declared.val.Val.TheViews.{roll-Val}
 use Rattle.value_core.specs.Layer.{Layer, on_parts, parts_of}
 use Rattle.value_core.specs.Leaves.{is_address}
-use Rattle.value_core.specs.Sound.{is_countable}
+use Rattle.value_core.specs.Sound.{is_countable, is_sound, is_sound_level}
 use Rattle.value_core.specs.Typed.{fits, fits_level}
 use Rattle.value_core.proofs.Levels.{Each}
 use Rattle.micheline_text.specs.declared.node.Node.{Node}
@@ -28,8 +28,7 @@ use Rattle.micheline_text.specs.declared.node.Body.TheOpen as body
 use Rattle.micheline_text.specs.declared.node.Body.TheOpen.{Body-F}
 use Rattle.micheline_text.specs.declared.node.Body.TheViews.{out-Body}
 use Rattle.data_nodes.specs.declared.fault.DataKind.TheVariants.{Shape}
-use Rattle.data_nodes.specs.Addressed.{is_good, is_good_level}
-use Rattle.data_nodes.specs.Nodes.{Test, all_are, are_items, is_applied_body, is_bytes_body, is_number_body, is_sequence_body, is_text_body}
+use Rattle.data_nodes.specs.Nodes.{Test, all_are, are_items, is_applied_body, is_bytes_body, is_numeral_body, is_sequence_body, is_text_body}
 use Rattle.data_nodes.specs.Data.{is_comb_body, is_entry, is_written, written_level}
 use Rattle.data_nodes.specs.Readers.{Read, ascending, bytes, entries, fault, items, made, number, pair, string}
 use Rattle.data_nodes.specs.Faults.{alone, applied, reader, sequence, storage_read, value_at, with_one}
@@ -43,8 +42,8 @@ use Rattle.data_nodes.proofs.TestCounts.{lengths}
 pub record Row (n : Node) (τ : Ty-F Ty) (v : Val) : Type 0 where
   pub level : Layer Val
   pub is : roll-Val level ≡ v
-  pub good : is_good_level level ≡ true
-  pub parts : list_all is_good (parts_of level) ≡ true
+  pub good : is_sound_level level ≡ true
+  pub parts : list_all is_sound (parts_of level) ≡ true
   pub fit : fits_level (on_parts fits level) τ ≡ true
   pub written : written_level (on_parts is_written level) n ≡ true
 
@@ -66,22 +65,22 @@ module _ (n : Node) (v : Val) (parts : (x : Layer Val) → roll-Val x ≡ v → 
   -- ---- literals
 
   number_row : (z : ℤ) (τ : Ty-F Ty) → out-Body n.body ≡ body.Int z → number n.at z τ ≡ Ok v → Row n τ v
-  number_row z ty.Int b h = record { level = one.Int z; is = value.rolls-Int z ∙ cc; good = refl; parts = refl; fit = refl; written = ap (is_number_body z) b ∙ same_number z }
-  number_row z ty.Time b h = record { level = one.Time z; is = value.rolls-Time z ∙ cc; good = refl; parts = refl; fit = refl; written = ap (is_number_body z) b ∙ same_number z }
+  number_row z ty.Int b h = record { level = one.Int z; is = value.rolls-Int z ∙ cc; good = refl; parts = refl; fit = refl; written = ap (is_numeral_body z) b ∙ same_number z }
+  number_row z ty.Time b h = record { level = one.Time z; is = value.rolls-Time z ∙ cc; good = refl; parts = refl; fit = refl; written = ap (is_numeral_body z) b ∙ same_number z }
   number_row z ty.Nat b h =
       let both = if_ok (int_le (pos 0) z) (Ok (value.Nat z)) _ v h in
       let made : value.Nat z ≡ v = cc in
-      record { level = one.Nat z; is = value.rolls-Nat z ∙ made; good = and_from _ _ both.0 refl; parts = refl; fit = refl; written = ap (is_number_body z) b ∙ same_number z }
+      record { level = one.Nat z; is = value.rolls-Nat z ∙ made; good = both.0; parts = refl; fit = refl; written = ap (is_numeral_body z) b ∙ same_number z }
   number_row z ty.Mutez b h =
       let both = if_ok (int_le (pos 0) z && int_lt z (pos (2 ^ 63))) (Ok (value.Mutez (nat_abs z))) _ v h in
       let made : value.Mutez (nat_abs z) ≡ v = cc in
       record {
         level = one.Mutez (nat_abs z);
         is = value.rolls-Mutez (nat_abs z) ∙ made;
-        good = and_from _ _ (amount_small z both.0) refl;
+        good = amount_small z both.0;
         parts = refl;
         fit = refl;
-        written = ap (is_number_body (pos (nat_abs z))) b ∙ ap (λ (y : ℤ). int_eq z y) (sym (amount_is z both.0)) ∙ same_number z;
+        written = ap (is_numeral_body (pos (nat_abs z))) b ∙ ap (λ (y : ℤ). int_eq z y) (sym (amount_is z both.0)) ∙ same_number z;
       }
   number_row z τ b h = absurd cc
 
@@ -94,7 +93,7 @@ module _ (n : Node) (v : Val) (parts : (x : Layer Val) → roll-Val x ≡ v → 
   bytes_row s ty.Addr b h =
       let both = if_ok (is_address s) (Ok (value.Addr s)) _ v h in
       let made : value.Addr s ≡ v = cc in
-      record { level = one.Addr s; is = value.rolls-Addr s ∙ made; good = both.0; parts = refl; fit = refl; written = ap (is_bytes_body s) b ∙ same_text s }
+      record { level = one.Addr s; is = value.rolls-Addr s ∙ made; good = refl; parts = refl; fit = refl; written = and_from _ _ both.0 (ap (is_bytes_body s) b ∙ same_text s) }
   bytes_row s τ b h = absurd cc
 
   -- ---- words
@@ -198,7 +197,7 @@ module _ (n : Node) (v : Val) (parts : (x : Layer Val) → roll-Val x ≡ v → 
       record {
         level = one.List m.0;
         is = is;
-        good = and_from _ _ (fewer is_written m.0 nodes said.written both.0) refl;
+        good = fewer is_written m.0 nodes said.written both.0;
         parts = said.sound;
         fit = said.fit;
         written = ap (is_sequence_body (map is_written m.0)) b ∙ said.written;
@@ -212,7 +211,7 @@ module _ (n : Node) (v : Val) (parts : (x : Layer Val) → roll-Val x ≡ v → 
       record {
         level = one.Set m.0;
         is = is;
-        good = and_from _ _ (and_from _ _ (fewer is_written m.0 nodes said.written both.0) all.1) refl;
+        good = and_from _ _ (fewer is_written m.0 nodes said.written both.0) all.1;
         parts = said.sound;
         fit = said.fit;
         written = ap (is_sequence_body (map is_written m.0)) b ∙ said.written;
@@ -226,7 +225,7 @@ module _ (n : Node) (v : Val) (parts : (x : Layer Val) → roll-Val x ≡ v → 
       record {
         level = one.Map m.0;
         is = is;
-        good = and_from _ _ (and_from _ _ (rw (← length-map m.0 (writing k w)) few) said.up) refl;
+        good = and_from _ _ (rw (← length-map m.0 (writing k w)) few) said.up;
         parts = said.sound;
         fit = said.fit;
         written = ap (is_sequence_body (map is_entry (map (writing k w) m.0))) b ∙ said.written;

@@ -3,6 +3,7 @@ use Rattle.std.proofs.Common.{◌≡◌, ℕ, Bool, true, false, List, [], ◌�
 use Rattle.std.specs.Prelude.{◌&&◌}
 use Rattle.std.specs.List.{list_all}
 use Rattle.std.proofs.lemmas.Bool.{and_from, and_parts}
+use Rattle.value_core.specs.Sound.{is_sound}
 use Rattle.value_core.specs.declared.ty.Ty.{Ty}
 use Rattle.value_core.specs.declared.ty.Ty.TheOpen as ty
 use Rattle.value_core.specs.declared.ty.Ty.TheOpen.{Ty-F}
@@ -13,7 +14,6 @@ use Rattle.value_core.specs.declared.val.Val.TheVariants.{rolls-Pair}
 use Rattle.value_core.specs.declared.val.Val.TheOpen as one
 use Rattle.value_core.specs.declared.val.Val.TheViews.{roll-Val}
 use Rattle.value_core.specs.Layer.{Layer, parts_of}
-use Rattle.data_nodes.specs.Addressed.{is_good}
 use Rattle.value_core.specs.Typed.{fits}
 use Rattle.value_core.proofs.Levels.{Each}
 use Rattle.micheline_text.specs.declared.node.Node.{Node}
@@ -75,7 +75,7 @@ pub record PairSaid (s u : Ty) (all : List Node) (v : Val) : Type 0 where
   pub first : Val
   pub second : Val
   pub is : roll-Val (one.Pair first second) ≡ v
-  pub sound : list_all is_good (first ∷ second ∷ []) ≡ true
+  pub sound : list_all is_sound (first ∷ second ∷ []) ≡ true
   pub fit : (fits first s && fits second u) ≡ true
   pub written : are_items (codes "Pair") (is_written first) (is_written second) all ≡ true
 
@@ -103,16 +103,16 @@ pair_said at t s u (x ∷ y ∷ more) v e h r =
       written = items-are (is_written first.0) (is_written second.0) x y more ∙ and_from _ _ a.written b.written;
     }
 
-pub pair_read : (at : ℕ) (t s u : Ty) (all : List Node) (a b : Val) → out-Ty t ≡ ty.Pair s u → Agree a → Agree b → list_all is_good (a ∷ b ∷ []) ≡ true → (fits a s && fits b u) ≡ true →
+pub pair_read : (at : ℕ) (t s u : Ty) (all : List Node) (a b : Val) → out-Ty t ≡ ty.Pair s u → Agree a → Agree b → list_all is_sound (a ∷ b ∷ []) ≡ true → (fits a s && fits b u) ≡ true →
     are_items (codes "Pair") (is_written a) (is_written b) all ≡ true → pair at (map reader all) t ≡ Ok (value.Pair a b)
 pair_read at t s u [] a b e f g sound fit written = absurd cc
 pair_read at t s u (x ∷ []) a b e f g sound fit written = absurd cc
 pair_read at t s u (x ∷ y ∷ more) a b e f g sound fit written =
     let rest : Ty → Read Val = comb at (map reader (y ∷ more)) in
     let both : (is_written a x && is_written b (second_node y more)) ≡ true = sym (items-are (is_written a) (is_written b) x y more) ∙ written in
-    let others : (is_good b && true) ≡ true = (and_parts (is_good a) _ sound).1 in
-    let first : storage_read s x ≡ Ok a = (f s x).read (record { sound = (and_parts (is_good a) _ sound).0; fit = (and_parts (fits a s) _ fit).0; written = (and_parts (is_written a x) _ both).0 }) in
-    let second = second_to at y more u b ((g u (second_node y more)).read (record { sound = (and_parts (is_good b) _ others).0; fit = (and_parts (fits a s) _ fit).1; written = (and_parts (is_written a x) _ both).1 })) in
+    let others : (is_sound b && true) ≡ true = (and_parts (is_sound a) _ sound).1 in
+    let first : storage_read s x ≡ Ok a = (f s x).read (record { sound = (and_parts (is_sound a) _ sound).0; fit = (and_parts (fits a s) _ fit).0; written = (and_parts (is_written a x) _ both).0 }) in
+    let second = second_to at y more u b ((g u (second_node y more)).read (record { sound = (and_parts (is_sound b) _ others).0; fit = (and_parts (fits a s) _ fit).1; written = (and_parts (is_written a x) _ both).1 })) in
     let few : is_comb_of (map reader (x ∷ y ∷ more)) t ≡ true = ap (at_second false (is_comb_of (map reader (y ∷ more)))) e ∙ second.0 in
     let made : pair_of at (reader x) rest (out-Ty t) ≡ Ok (value.Pair a b) =
     ap (pair_of at (reader x) rest) e ∙ ap (λ (r : Read Val). then_read r (λ a. then_read (rest u) (λ b. Ok (value.Pair a b)))) first ∙ ap (λ (r : Read Val). then_read r (λ b. Ok (value.Pair a b))) second.1 in

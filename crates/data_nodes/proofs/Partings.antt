@@ -22,7 +22,7 @@ use Rattle.value_core.proofs.Canonical.{of_map, of_pair}
 use Rattle.value_core.proofs.Combs.{one_more_part}
 use Rattle.value_core.proofs.Levels.{out-roll}
 use Rattle.value_core.proofs.TypeEquations.{has_type-pair}
-use Rattle.data_nodes.specs.Parts.{IsPart, Parting, onto, part_map, part_pair, parting, parting_level, tagged}
+use Rattle.data_nodes.specs.Parts.{BecomesKept, Parting, onto, part_map, part_pair, parting, parting_level, tagged}
 use Rattle.data_nodes.specs.Storage.{Entry, Kept, with_maps}
 use Rattle.data_nodes.proofs.StorageTypes.{IsOther, along_pairs, maps-map, maps-pair, with_maps-map, with_maps-pair}
 
@@ -89,7 +89,7 @@ parted-other t o first v = ap (λ (p : Parting). p.1 first v) (parting-other t o
 -- ---- what becomes of a part, behind the entries so far
 
 pair_part : (s u : Ty) (a b : Val) (first next last : ℕ) (x y : Val) (front middle all : List Entry) →
-    IsPart s a first front x middle next → IsPart u b next middle y all last → IsPart (kind.Pair s u) (value.Pair a b) first front (value.Pair x y) all last
+    BecomesKept s a first front x middle next → BecomesKept u b next middle y all last → BecomesKept (kind.Pair s u) (value.Pair a b) first front (value.Pair x y) all last
 pair_part s u a b first next last x y front middle all p q =
     let left = (parting s).1 first a in
     let right : Kept = (parting u).1 (first + length (big_maps_of s)) b in
@@ -106,26 +106,26 @@ pair_part s u a b first next last x y front middle all p q =
 -- what becomes of all that is left tells what becomes of the whole, behind the first parts of a comb
 abbrev pub Tells : Ty → Val → ℕ → List Entry → List Val → Ty → Val → ℕ → List Entry → Type 0
 Tells t v first front firsts kind rest next so_far =
-    (y : Val) (all : List Entry) (last : ℕ) → IsPart kind rest next so_far y all last → IsPart t v first front (comb value.Pair firsts y) all last
+    (y : Val) (all : List Entry) (last : ℕ) → BecomesKept kind rest next so_far y all last → BecomesKept t v first front (comb value.Pair firsts y) all last
 
 -- one part more
 pub tells_more : (t kind_now s u : Ty) (v rest a b x : Val) (first next place : ℕ) (front so_far middle : List Entry) (firsts : List Val) →
-    kind_now ≡ kind.Pair s u → rest ≡ value.Pair a b → Tells t v first front firsts kind_now rest next so_far → IsPart s a next so_far x middle place →
+    kind_now ≡ kind.Pair s u → rest ≡ value.Pair a b → Tells t v first front firsts kind_now rest next so_far → BecomesKept s a next so_far x middle place →
     Tells t v first front (firsts ++ x ∷ []) u b place middle
 tells_more t kind_now s u v rest a b x first next place front so_far middle firsts is is_pair tells p y all last q =
-    let both : IsPart kind_now rest next so_far (value.Pair x y) all last =
-    subst (λ (r : Ty). IsPart r rest next so_far (value.Pair x y) all last) (sym is)
-    (subst (λ (w : Val). IsPart (kind.Pair s u) w next so_far (value.Pair x y) all last) (sym is_pair) (pair_part s u a b next place last x y so_far middle all p q)) in
-    subst (λ (w : Val). IsPart t v first front w all last) (sym (one_more_part value.Pair firsts x y)) (tells (value.Pair x y) all last both)
+    let both : BecomesKept kind_now rest next so_far (value.Pair x y) all last =
+    subst (λ (r : Ty). BecomesKept r rest next so_far (value.Pair x y) all last) (sym is)
+    (subst (λ (w : Val). BecomesKept (kind.Pair s u) w next so_far (value.Pair x y) all last) (sym is_pair) (pair_part s u a b next place last x y so_far middle all p q)) in
+    subst (λ (w : Val). BecomesKept t v first front w all last) (sym (one_more_part value.Pair firsts x y)) (tells (value.Pair x y) all last both)
 
 pub map_part : (t k w : Ty) (m : Val) (es : List (Val × Val)) (place : ℕ) (front all : List Entry) → t ≡ kind.BigMap k w → m ≡ value.Map es → all ≡ front ++ tagged place es →
-    IsPart t m place front (value.BigMap place 0) all (place + 1)
+    BecomesKept t m place front (value.BigMap place 0) all (place + 1)
 map_part t k w m es place front all e is all_is = (
   (λ i. (value.BigMap place 0, all_is i)) ∙ ap (onto front) (sym ((λ i. (parting (e i)).1 place (is i)) ∙ parted-map k w place es)),
   omega (arith, count-map t k w e),
 )
 
-pub other_part : (t : Ty) (v : Val) (first : ℕ) (front : List Entry) → ((s u : Ty) → t ≡ kind.Pair s u → ⊥) → ((k w : Ty) → t ≡ kind.BigMap k w → ⊥) → IsPart t v first front v front first
+pub other_part : (t : Ty) (v : Val) (first : ℕ) (front : List Entry) → ((s u : Ty) → t ≡ kind.Pair s u → ⊥) → ((k w : Ty) → t ≡ kind.BigMap k w → ⊥) → BecomesKept t v first front v front first
 other_part t v first front p q =
     let other : IsOther t = record { no_pair = p; no_map = q } in (
       (λ i. (v, sym (append-nil front) i)) ∙ ap (onto front) (sym (parted-other t other first v)),

@@ -9,7 +9,8 @@ use Rattle.value_core.specs.Sound.{is_plain}
 use Rattle.micheline_text.specs.declared.node.Node.{Node}
 use Rattle.data_nodes.specs.declared.fault.DataRefusal.{DataRefusal}
 use Rattle.data_nodes.specs.declared.fault.DataRefusal.TheVariants.{Fault, NoMemory}
-use Rattle.data_nodes.specs.Answers.{Answers, GivesAs, Refuses, Tells}
+use Rattle.micheline_text.specs.Told.{AnswersUnlessFull, IsTold}
+use Rattle.data_nodes.specs.Told.{Tells, node_fault}
 use Rattle.data_nodes.specs.Data.{IsData}
 use Rattle.data_nodes.specs.Faults.{storage_read}
 use Rattle.data_nodes.specs.FirstFault.{IsFirstFault}
@@ -27,7 +28,7 @@ use Rattle.data_nodes.proofs.StorageBack.{parted_again}
 abbrev pub storage_parted : Ty → Node → Read Kept
 storage_parted t n = then_read (storage_read (with_maps t) n) (λ v. Ok (parted t v))
 
-fault_of : (t : Ty) (r : Read Val) (e : DataRefusal) → Refuses (then_read r (λ v. Ok (parted t v))) e → Refuses r e
+fault_of : (t : Ty) (r : Read Val) (e : DataRefusal) → IsTold (node_fault e) (then_read r (λ v. Ok (parted t v))) → IsTold (node_fault e) r
 fault_of t r NoMemory h = tt
 fault_of t (Ok v) (Fault f) h = absurd cc
 fault_of t (Err g) (Fault f) h = cc
@@ -53,24 +54,22 @@ storage_is_read t n kept s =
     ∙ ap (λ (k : Kept). Ok k) (parted_again t kept s.is)
 
 module _ {A : Type 0} (view : A → Kept) (t : Ty) (n : Node) where
-  pub storage_found : (r : Result A DataRefusal) → length (big_maps_of t) ≤ 16 → Answers view (storage_parted t n) r → IfOk r (λ x. IsStorage t n (view x))
+  pub storage_found : (r : Result A DataRefusal) → length (big_maps_of t) ≤ 16 → AnswersUnlessFull node_fault view r (storage_parted t n) → IfOk r (λ x. IsStorage t n (view x))
   storage_found (Ok x) few a = (found t n few (view x) a).0
   storage_found (Err e) few a = tt
 
-  pub storage_plain : (r : Result A DataRefusal) → length (big_maps_of t) ≤ 16 → Answers view (storage_parted t n) r → IfOk r (λ x. IsTrue (is_plain (view x).0))
+  pub storage_plain : (r : Result A DataRefusal) → length (big_maps_of t) ≤ 16 → AnswersUnlessFull node_fault view r (storage_parted t n) → IfOk r (λ x. IsTrue (is_plain (view x).0))
   storage_plain (Ok x) few a = (found t n few (view x) a).0.is.plain
   storage_plain (Err e) few a = tt
 
-  pub entries_plain : (r : Result A DataRefusal) → length (big_maps_of t) ≤ 16 → Answers view (storage_parted t n) r → IfOk r (λ x. ArePlain (view x))
+  pub entries_plain : (r : Result A DataRefusal) → length (big_maps_of t) ≤ 16 → AnswersUnlessFull node_fault view r (storage_parted t n) → IfOk r (λ x. ArePlain (view x))
   entries_plain (Ok x) few a = (found t n few (view x) a).1
   entries_plain (Err e) few a = tt
 
-  pub storage_only : (r : Result A DataRefusal) → Answers view (storage_parted t n) r → (kept : Kept) → IsStorage t n kept → GivesAs view kept r
-  storage_only (Ok x) a kept s = let read = storage_is_read t n kept s in cc
-  storage_only (Err NoMemory) a kept s = tt
-  storage_only (Err (Fault f)) a kept s = let read = storage_is_read t n kept s in absurd cc
+  pub storage_only : (r : Result A DataRefusal) → AnswersUnlessFull node_fault view r (storage_parted t n) → (kept : Kept) → IsStorage t n kept → AnswersUnlessFull node_fault view r (Ok kept)
+  storage_only r a kept s = subst (AnswersUnlessFull node_fault view r) (storage_is_read t n kept s) a
 
-  pub storage_fault : (r : Result A DataRefusal) → Answers view (storage_parted t n) r → IfErr r (Tells (IsFirstFault (with_maps t) n))
+  pub storage_fault : (r : Result A DataRefusal) → AnswersUnlessFull node_fault view r (storage_parted t n) → IfErr r (Tells (IsFirstFault (with_maps t) n))
   storage_fault (Ok x) a = tt
   storage_fault (Err NoMemory) a = tt
   storage_fault (Err (Fault f)) a = first_is_told (with_maps t) n f (fault_of t (storage_read (with_maps t) n) (Fault f) a)

@@ -5,7 +5,7 @@ use Rattle.micheline_text.specs.declared.node.Node.{Node}
 use Rattle.data_nodes.specs.declared.fault.DataFault.{DataFault}
 use Rattle.data_nodes.specs.declared.fault.DataKind.{DataKind}
 use Rattle.data_nodes.specs.Readers.{Read, fault, then_read}
-use Rattle.data_nodes.specs.FirstFault.{IsBefore, IsFaulty, IsFirstOf, Part, Place, Role, StandsAt, parts_of, unless}
+use Rattle.data_nodes.specs.FirstFault.{IsBefore, IsFaulty, IsFirstOf, Part, Place, Role, IsFaultAt, parts_of, unless}
 
 -- no fault stands anywhere where a value is read, and the first one is told elsewhere
 abbrev pub Told : {A : Type 0} → (Place → DataFault → Type 0) → Read A → Type 0
@@ -15,7 +15,7 @@ Told Stands (Err f) = IsFirstOf Stands f
 -- the fault stands in one of the parts
 abbrev pub InParts : List Part → Place → DataFault → Type 0
 InParts ps [] f = ⊥
-InParts ps (i ∷ p) f = IsSomeAnd (slice_get ps i) (λ x. StandsAt p x.0 x.1 f)
+InParts ps (i ∷ p) f = IsSomeAnd (slice_get ps i) (λ x. IsFaultAt p x.0 x.1 f)
 
 pub no_part : (p : Place) (f : DataFault) → InParts [] p f → ⊥
 no_part [] f h = h
@@ -29,7 +29,7 @@ further (i ∷ p) = suc i ∷ p
 
 module _ (x : Part) (ps : List Part) where
   abbrev Here : Place → DataFault → Type 0
-  Here p f = StandsAt p x.0 x.1 f
+  Here p f = IsFaultAt p x.0 x.1 f
 
   none_in : ((p : Place) (f : DataFault) → Here p f → ⊥) → ((p : Place) (f : DataFault) → InParts ps p f → ⊥) → (p : Place) (f : DataFault) → InParts (x ∷ ps) p f → ⊥
   none_in here others [] f s = s
@@ -71,7 +71,7 @@ module _ (x : Part) (ps : List Part) where
   then_told (Ok a) rest told more = behind_told (rest a) told (more a refl)
   then_told (Err f) rest told more = first_in f told
 
-pub single_told : {A : Type 0} (x : Part) (r : Read A) → Told (λ p f. StandsAt p x.0 x.1 f) r → Told (InParts (x ∷ [])) r
+pub single_told : {A : Type 0} (x : Part) (r : Read A) → Told (λ p f. IsFaultAt p x.0 x.1 f) r → Told (InParts (x ∷ [])) r
 single_told x (Ok a) told = none_in x [] told no_part
 single_told x (Err f) told = first_in x [] f told
 
@@ -83,7 +83,7 @@ mapped_told Stands (Err e) f told = told
 
 module _ (role : Role) (n : Node) (own : Option DataKind) (makes : (kind : DataKind) → own ≡ Some kind → IsFaulty role n kind) (comes : (kind : DataKind) → IsFaulty role n kind → own ≡ Some kind) where
   abbrev Stands : Place → DataFault → Type 0
-  Stands p f = StandsAt p role n f
+  Stands p f = IsFaultAt p role n f
 
   only_own : (kind : DataKind) → own ≡ Some kind → (q : Place) (g : DataFault) → Stands q g → (([] ≡ q) × (record { at = n.at; kind = kind } ≡ g)) ⊎ IsBefore [] q
   only_own kind e [] g s =

@@ -12,7 +12,7 @@ use Rattle.micheline_text.specs.declared.node.Body.TheOpen.{Body-F, Node-F}
 use Rattle.micheline_text.specs.declared.node.Body.TheViews.{out-Body, roll-Body, the_lemmas}
 use Rattle.micheline_text.specs.declared.node.Body.TheFolds.{fold-roll-Node, fold-roll-Body, fold_out-Body, map-Body}
 use Rattle.micheline_text.specs.Again.{unplaced, unplaced_body}
-use Rattle.data_nodes.specs.Nodes.{Test, all_are, applied, are_items, is_applied, is_applied_body, is_bytes, is_bytes_body, is_number, is_number_body, is_sequence, is_sequence_body, is_string, is_text_body, node}
+use Rattle.data_nodes.specs.Nodes.{Test, all_are, applied, are_items, is_applied, is_applied_body, is_bytes, is_bytes_body, is_numeral, is_numeral_body, is_sequence, is_sequence_body, is_string, is_text_body, node}
 
 -- ---- nodes without places
 
@@ -58,12 +58,12 @@ IgnoresPlaces test = (n : Node) → test (unplaced n) ≡ test n
 pub same_answer : (test : Test) → IgnoresPlaces test → (m n : Node) → unplaced m ≡ unplaced n → test m ≡ test n
 same_answer test ignores m n same = sym (ignores m) ∙ ap test same ∙ ignores n
 
-number_level : (z : ℤ) (x : Body-F Body Node) → is_number_body z (bare x) ≡ is_number_body z x
+number_level : (z : ℤ) (x : Body-F Body Node) → is_numeral_body z (bare x) ≡ is_numeral_body z x
 number_level z (one.Int y) = refl
 number_level z _ = refl
 
-pub is_number-unplaced : (z : ℤ) → IgnoresPlaces (is_number z)
-is_number-unplaced z n = ap (is_number_body z) (level-unplaced n) ∙ number_level z (out-Body n.body)
+pub is_numeral-unplaced : (z : ℤ) → IgnoresPlaces (is_numeral z)
+is_numeral-unplaced z n = ap (is_numeral_body z) (level-unplaced n) ∙ number_level z (out-Body n.body)
 
 string_level : (s : List ℕ) (x : Body-F Body Node) → is_text_body s (bare x) ≡ is_text_body s x
 string_level s (one.Text t) = refl

@@ -64,5 +64,5 @@ whole_storage t n v plain none data_of =
     let w = whole t v data_of.0 none in
     record {
       is = record { typed = data_of.0; placed = w.placed 0; plain = plain; entries = tt; ascending = refl; countable = λ place. refl };
-      said = subst (IsData (with_maps t) n) (sym w.same) (w.typed, data_of.1, data_of.2);
+      said = subst (IsData (with_maps t) n) (sym w.same) (w.typed, data_of.1);
     }

@@ -27,6 +27,7 @@ sequence at nodes t _ = fault Shape at
 
 -- ---- words with their arguments
 
+-- a word by itself
 abbrev pub alone : ℕ → List ℕ → Ty-F Ty → Read Val
 alone at name ty.Unit = if bytes_eq name (codes "Unit") then Ok value.Unit else fault Shape at
 alone at name ty.Bool =
@@ -34,12 +35,14 @@ alone at name ty.Bool =
 alone at name (ty.Option t) = if bytes_eq name (codes "None") then Ok value.Nothing else fault Shape at
 alone at name _ = fault Shape at
 
+-- a word with one argument
 abbrev pub with_one : ℕ → List ℕ → Reader → Ty-F Ty → Read Val
 with_one at name x (ty.Option t) = if bytes_eq name (codes "Some") then made value.Some (x.value t) else fault Shape at
 with_one at name x (ty.Or s t) =
     if bytes_eq name (codes "Left") then made value.Left (x.value s) else if bytes_eq name (codes "Right") then made value.Right (x.value t) else fault Shape at
 with_one at name x _ = fault Shape at
 
+-- by how many arguments there are
 abbrev pub applied : ℕ → List ℕ → List Reader → Ty → Read Val
 applied at name [] t = alone at name (out-Ty t)
 applied at name (x ∷ []) t = with_one at name x (out-Ty t)
@@ -47,6 +50,7 @@ applied at name (x ∷ y ∷ more) t = if bytes_eq name (codes "Pair") then pair
 
 -- ---- a node
 
+-- data of a type, by the kind of node
 abbrev pub value_at : ℕ → Body-F (ℕ → Reader) Reader → Ty → Read Val
 value_at at (body.Int z) t = number at z (out-Ty t)
 value_at at (body.Text s) t = string at s (out-Ty t)
@@ -59,14 +63,17 @@ abbrev pub key_and_value : Reader → Reader → Option Val → Ty → Ty → Re
 key_and_value x y last k v = then_read (x.value k) (λ key.
     if is_above last key then then_read (y.value v) (λ value. Ok (key, value)) else fault Order x.place)
 
+-- a word with its arguments, as an entry
 abbrev pub entry_of : ℕ → List ℕ → List Reader → Option Val → Ty → Ty → Read (Val × Val)
 entry_of at name (x ∷ y ∷ []) last k v = if bytes_eq name (codes "Elt") then key_and_value x y last k v else fault Shape at
 entry_of at name _ last k v = fault Shape at
 
+-- an entry, by the kind of node
 abbrev pub entry_at : ℕ → Body-F (ℕ → Reader) Reader → Option Val → Ty → Ty → Read (Val × Val)
 entry_at at (body.Prim name notes args) last k v = entry_of at name args last k v
 entry_at at _ last k v = fault Shape at
 
+-- what can be read of the node
 abbrev pub reader : Node → Reader
 reader = fold-Node (ℕ → Reader) Reader (λ b at. record { place = at; value = value_at at b; entry = entry_at at b }) (λ n. n.body n.at)
 

@@ -29,6 +29,7 @@ pub data Role : Type 0 where
 
 -- ---- a node by itself
 
+-- this kind, where the test fails
 abbrev pub unless : Bool → DataKind → Option DataKind
 unless good kind = if good then None else Some kind
 
@@ -37,6 +38,7 @@ abbrev pub level_pairs : Ty-F ℕ → ℕ
 level_pairs (ty.Pair s t) = 1 + t
 level_pairs _ = 0
 
+-- of a type
 abbrev pub pairs_of : Ty → ℕ
 pairs_of = fold-Ty ℕ level_pairs
 
@@ -95,6 +97,7 @@ abbrev pub pair_parts : Node → (Ty → List Part) → Ty-F Ty → List Part
 pair_parts x others (ty.Pair s u) = part s x ∷ others u
 pair_parts x others _ = []
 
+-- the items of a comb, each at its type
 abbrev pub comb_parts : List Node → Ty → List Part
 comb_parts [] t = []
 comb_parts (x ∷ []) t = part t x ∷ []
@@ -115,6 +118,7 @@ abbrev pub map_parts : Ty → Ty → Option Node → List Node → List Part
 map_parts k v before [] = []
 map_parts k v before (x ∷ more) = (EntryOf k v before, x) ∷ map_parts k v (key_here (out-Body x.body)) more
 
+-- the parts of data of a type
 abbrev pub parts_here : Ty → Ty-F Ty → Body-F Body Node → List Part
 parts_here t (ty.Option u) (body.Prim name notes (x ∷ [])) = part u x ∷ []
 parts_here t (ty.Or s u) (body.Prim name notes (x ∷ [])) = part (if bytes_eq name (codes "Left") then s else u) x ∷ []
@@ -125,10 +129,12 @@ parts_here t (ty.Set u) (body.Seq nodes) = set_parts u None nodes
 parts_here t (ty.Map k v) (body.Seq nodes) = map_parts k v None nodes
 parts_here t _ _ = []
 
+-- the key and the value of an entry
 abbrev pub entry_parts : Ty → Ty → Option Node → Body-F Body Node → List Part
 entry_parts k v before (body.Prim name notes (x ∷ y ∷ [])) = (OfType k before, x) ∷ part v y ∷ []
 entry_parts k v before _ = []
 
+-- the parts of a node by its role
 abbrev pub parts_of : Role → Node → List Part
 parts_of (OfType t before) n = parts_here t (out-Ty t) (out-Body n.body)
 parts_of (EntryOf k v before) n = entry_parts k v before (out-Body n.body)
@@ -140,9 +146,9 @@ abbrev pub Place : Type 0
 Place = List ℕ
 
 -- the fault stands at the place, and is told at the offset of the node there
-abbrev pub StandsAt : Place → Role → Node → DataFault → Type 0
-StandsAt [] role n f = IsFaulty role n f.kind × (f.at ≡ n.at)
-StandsAt (i ∷ place) role n f = IsSomeAnd (slice_get (parts_of role n) i) (λ p. StandsAt place p.0 p.1 f)
+abbrev pub IsFaultAt : Place → Role → Node → DataFault → Type 0
+IsFaultAt [] role n f = IsFaulty role n f.kind × (f.at ≡ n.at)
+IsFaultAt (i ∷ place) role n f = IsSomeAnd (slice_get (parts_of role n) i) (λ p. IsFaultAt place p.0 p.1 f)
 
 -- a node stands before those in it, and these before what stands further right
 abbrev pub IsBefore : Place → Place → Type 0
@@ -157,7 +163,7 @@ IsFirstOf {F} Stands f = (p : Place) × Stands p f × ((q : Place) (g : F) → S
 
 -- the first fault of a node as data of a type
 abbrev pub IsFirstFault : Ty → Node → DataFault → Type 0
-IsFirstFault t n = IsFirstOf (λ p f. StandsAt p (OfType t None) n f)
+IsFirstFault t n = IsFirstOf (λ p f. IsFaultAt p (OfType t None) n f)
 
 -- why a node isn't read as data: its first fault, or that it is data of more than 4,096 leaves
 abbrev pub IsDataFault : Ty → Node → DataFault → Type 0

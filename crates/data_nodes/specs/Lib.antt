@@ -1,12 +1,11 @@
 -- what the public contracts rest on
 pub mod Nodes
-pub mod Addressed
 pub mod Data
 pub mod Storage
 pub mod Readers
 pub mod Faults
 pub mod FirstFault
-pub mod Answers
+pub mod Told
 pub mod Printed
 -- what functions inside promise each other
 pub mod Printing

@@ -12,6 +12,7 @@ use Rattle.micheline_text.specs.declared.node.Body.TheViews.{out-Body}
 
 -- ---- what a node must be; its place and its annotations say nothing
 
+-- what is asked of a node
 abbrev pub Test : Type 0
 Test = Node → Bool
 
@@ -19,33 +20,40 @@ Test = Node → Bool
 abbrev pub all_are : List Test → List Node → Bool
 all_are = pointwise (λ test n. test n)
 
-abbrev pub is_number_body : ℤ → Body-F Body Node → Bool
-is_number_body z (one.Int y) = int_eq y z
-is_number_body z _ = false
+-- one level of a numeral
+abbrev pub is_numeral_body : ℤ → Body-F Body Node → Bool
+is_numeral_body z (one.Int y) = int_eq y z
+is_numeral_body z _ = false
 
+-- of a string
 abbrev pub is_text_body : List ℕ → Body-F Body Node → Bool
 is_text_body s (one.Text t) = bytes_eq t s
 is_text_body s _ = false
 
+-- of a byte literal
 abbrev pub is_bytes_body : List ℕ → Body-F Body Node → Bool
 is_bytes_body b (one.Bytes t) = bytes_eq t b
 is_bytes_body b _ = false
 
+-- of a word with arguments
 abbrev pub is_applied_body : List ℕ → List Test → Body-F Body Node → Bool
 is_applied_body word tests (one.Prim name notes args) = bytes_eq name word && all_are tests args
 is_applied_body word tests _ = false
 
+-- of nodes in braces
 abbrev pub is_sequence_body : List Test → Body-F Body Node → Bool
 is_sequence_body tests (one.Seq nodes) = all_are tests nodes
 is_sequence_body tests _ = false
 
--- a numeral, a string, a byte literal
-abbrev pub is_number : ℤ → Test
-is_number z n = is_number_body z (out-Body n.body)
+-- this numeral
+abbrev pub is_numeral : ℤ → Test
+is_numeral z n = is_numeral_body z (out-Body n.body)
 
+-- this string
 abbrev pub is_string : List ℕ → Test
 is_string s n = is_text_body s (out-Body n.body)
 
+-- this byte literal
 abbrev pub is_bytes : List ℕ → Test
 is_bytes b n = is_bytes_body b (out-Body n.body)
 
@@ -59,12 +67,15 @@ is_sequence tests n = is_sequence_body tests (out-Body n.body)
 
 -- ---- nodes without a place
 
+-- with this body
 abbrev pub node : Body → Node
 node b = record { at = 0; body = b }
 
+-- a word alone
 abbrev pub word : List ℕ → Node
 word name = node (body.Prim name [] [])
 
+-- a word with arguments
 abbrev pub applied : List ℕ → List Node → Node
 applied name args = node (body.Prim name [] args)
 

@@ -20,11 +20,13 @@ tagged place = map (λ e. (place, e.0, e.1))
 abbrev pub Parting : Type 0
 Parting = ℕ × (ℕ → Val → Kept)
 
+-- of a pair: its first part, and then its second
 abbrev pub part_pair : Parting → Parting → ℕ → Val → Layer Val → Kept
 part_pair s t first v (one.Pair a b) =
     let x : Kept = s.1 first a in let y : Kept = t.1 (first + s.0) b in (value.Pair x.0 y.0, x.1 ++ y.1)
 part_pair s t first v _ = (v, [])
 
+-- of the map that stands for a big map: its place stays, and its entries are taken out
 abbrev pub part_map : ℕ → Val → Layer Val → Kept
 part_map place v (one.Map entries) = (value.BigMap place 0, tagged place entries)
 part_map place v _ = (v, [])
@@ -35,6 +37,7 @@ parting_level (ty.Pair s t) = (s.0 + t.0, λ first v. part_pair s t first v (out
 parting_level (ty.BigMap k v) = (1, λ place m. part_map place m (out-Val m))
 parting_level _ = (0, λ first v. (v, []))
 
+-- of a type
 abbrev pub parting : Ty → Parting
 parting = fold-Ty Parting parting_level
 
@@ -47,5 +50,5 @@ abbrev pub onto : List Entry → Kept → Kept
 onto front p = (p.0, front ++ p.1)
 
 -- what becomes of a value whose first big map has a place, behind the entries so far, and the place after its big maps
-abbrev pub IsPart : Ty → Val → ℕ → List Entry → Val → List Entry → ℕ → Type 0
-IsPart t v first front kept all next = ((kept, all) ≡ onto front ((parting t).1 first v)) × (next ≡ first + length (big_maps_of t))
+abbrev pub BecomesKept : Ty → Val → ℕ → List Entry → Val → List Entry → ℕ → Type 0
+BecomesKept t v first front kept all next = ((kept, all) ≡ onto front ((parting t).1 first v)) × (next ≡ first + length (big_maps_of t))

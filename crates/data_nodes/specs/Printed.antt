@@ -35,12 +35,13 @@ printed_level (one.Set items) = node (body.Seq items)
 printed_level (one.Map entries) = node (body.Seq (map (λ e. applied (codes "Elt") (e.0 ∷ e.1 ∷ [])) entries))
 printed_level _ = node (body.Seq [])
 
+-- the node of a value
 abbrev pub node_of : Val → Node
 node_of = by_level printed_level
 
 -- plain, and without big maps
-abbrev pub is_printable : Val → Bool
-is_printable v = is_plain v && has_no_big_map v
+abbrev pub is_printed_whole : Val → Bool
+is_printed_whole v = is_plain v && has_no_big_map v
 
 -- the text is one of a node that is data of each type of the value, and a storage of each, without entries
 abbrev pub IsReadAgain : List ℕ → Val → Type 0

@@ -29,6 +29,7 @@ written_level (ty.Pair s t) = (type.Pair s.0 t.0, type.Pair s.1 t.1)
 written_level (ty.BigMap k v) = (type.BigMap k.0 v.0, type.Map k.0 v.0)
 written_level x = let t : Ty = roll-Ty (map-Ty (Ty × Ty) Ty (λ p. p.0) x) in (t, t)
 
+-- a type with maps for its big maps
 abbrev pub with_maps : Ty → Ty
 with_maps t = (fold-Ty (Ty × Ty) written_level t).1
 
@@ -48,6 +49,7 @@ joined_level entries (one.Pair f g) (one.Pair a b) = value.Pair (f a) (g b)
 joined_level entries (one.BigMap place version) x = value.Map (entries_at place entries)
 joined_level entries _ x = roll-Val x
 
+-- a storage with its entries in their places
 abbrev pub with_entries : List Entry → Val → Val
 with_entries entries v = by_level {A = Val → Val} (λ x w. joined_level entries x (out-Val w)) v v
 

@@ -1,8 +1,9 @@
 //! The items of lists and sets, and the entries of maps.
 
 ghost use Rattle.std.specs.Prelude.{◌≡◌, None, map};
-ghost use Rattle.data_nodes.specs.Answers.{Answers};
 ghost use Rattle.value_core.specs.Lasts.{is_above, last_item, last_key};
+ghost use Rattle.micheline_text.specs.Told.{AnswersUnlessFull};
+ghost use Rattle.data_nodes.specs.Told.{node_fault};
 ghost use Rattle.data_nodes.specs.Readers.{ascending, entries, items};
 ghost use Rattle.data_nodes.specs.Faults.{entry_of, key_and_value, reader};
 
@@ -16,7 +17,7 @@ use value_core::{Ty, Val, compare};
 
 #[cycle(reading)]
 pub(crate) fn items(alloc: Global, t: &Ty, nodes: &[Node]) -> Result<Items<Val>, DataRefusal>
-    ensures { Answers (λ vs. vs) (items t.now (map reader nodes.now)) result }
+    ensures { AnswersUnlessFull node_fault (λ vs. vs) result (items t.now (map reader nodes.now)) }
 {
     let mut items = Items::new(alloc);
     for node in nodes {
@@ -28,7 +29,8 @@ pub(crate) fn items(alloc: Global, t: &Ty, nodes: &[Node]) -> Result<Items<Val>,
 /// The items of a set, each above the one before.
 #[cycle(reading)]
 pub(crate) fn ascending(alloc: Global, t: &Ty, nodes: &[Node]) -> Result<Items<Val>, DataRefusal>
-    ensures { Answers (λ vs. vs) (ascending t.now None (map reader nodes.now)) result }
+    ensures { AnswersUnlessFull node_fault (λ vs. vs) result
+        (ascending t.now None (map reader nodes.now)) }
 {
     let mut items: Items<Val> = Items::new(alloc);
     for node in nodes {
@@ -49,7 +51,8 @@ pub(crate) fn entries(
     v: &Ty,
     nodes: &[Node],
 ) -> Result<Items<(Val, Val)>, DataRefusal>
-    ensures { Answers (λ es. es) (entries k.now v.now None (map reader nodes.now)) result }
+    ensures { AnswersUnlessFull node_fault (λ es. es) result
+        (entries k.now v.now None (map reader nodes.now)) }
 {
     let mut entries: Items<(Val, Val)> = Items::new(alloc);
     for node in nodes {
@@ -68,7 +71,8 @@ fn entry(
     before: &[(Val, Val)],
     n: &Node,
 ) -> Result<(Val, Val), DataRefusal>
-    ensures { Answers (λ e. e) ((reader n.now).entry (last_key before.now) k.now v.now) result }
+    ensures { AnswersUnlessFull node_fault (λ e. e) result
+        ((reader n.now).entry (last_key before.now) k.now v.now) }
 {
     let at = n.at as usize;
     match &n.body {
@@ -89,8 +93,8 @@ fn entry_of(
     name: &[u8],
     args: &[Node],
 ) -> Result<(Val, Val), DataRefusal>
-    ensures { Answers (λ e. e)
-        (entry_of at name.now (map reader args.now) (last_key before.now) k.now v.now) result }
+    ensures { AnswersUnlessFull node_fault (λ e. e) result
+        (entry_of at name.now (map reader args.now) (last_key before.now) k.now v.now) }
 {
     match args {
         [key, item] if is_word(name, "Elt") => {

@@ -7,7 +7,7 @@ ghost use Rattle.micheline_text.specs.declared.node.Node.{Node};
 ghost use Rattle.data_nodes.specs.declared.fault.DataFault.{DataFault};
 ghost use Rattle.data_nodes.specs.Data.{IsData};
 ghost use Rattle.data_nodes.specs.Faults.{storage_read};
-ghost use Rattle.data_nodes.specs.FirstFault.{IsDataFault, IsFirstFault, OfType, Place, StandsAt};
+ghost use Rattle.data_nodes.specs.FirstFault.{IsDataFault, IsFirstFault, OfType, Place, IsFaultAt};
 
 /// What a reader from the left comes upon is the fault that stands before all others. A node has
 /// one such fault at most, and data has none.
@@ -19,5 +19,5 @@ pub fn the_first_fault_is_told()
     ensures one_of_data { (t : Ty) (n : Node) (f g : DataFault) →
         IsDataFault t n f → IsDataFault t n g → f ≡ g }
     ensures none { (t : Ty) (n : Node) (v : Val) → IsData t n v →
-        (p : Place) (f : DataFault) → StandsAt p (OfType t None) n f → ⊥ }
+        (p : Place) (f : DataFault) → IsFaultAt p (OfType t None) n f → ⊥ }
 {}

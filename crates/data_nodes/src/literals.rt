@@ -2,7 +2,8 @@
 
 ghost use Rattle.std.specs.Prelude.{◌≡◌};
 ghost use Rattle.value_core.specs.declared.ty.Ty.TheViews.{out-Ty};
-ghost use Rattle.data_nodes.specs.Answers.{Answers};
+ghost use Rattle.micheline_text.specs.Told.{AnswersUnlessFull};
+ghost use Rattle.data_nodes.specs.Told.{node_fault};
 ghost use Rattle.data_nodes.specs.Readers.{bytes, number, string};
 
 use crate::fault::{DataRefusal, out_of_range, shape};
@@ -12,7 +13,7 @@ use value_core::{Address, Blob, Num, Text, Ty, Val};
 const AMOUNT_LIMIT: i128 = 0x8000_0000_0000_0000;
 
 pub(crate) fn number(t: &Ty, at: usize, n: Num) -> Result<Val, DataRefusal>
-    ensures { Answers (λ v. v) (number at n (out-Ty t.now)) result }
+    ensures { AnswersUnlessFull node_fault (λ v. v) result (number at n (out-Ty t.now)) }
 {
     match t {
         Ty::Int => Ok(Val::Int(n)),
@@ -34,7 +35,7 @@ pub(crate) fn number(t: &Ty, at: usize, n: Num) -> Result<Val, DataRefusal>
 }
 
 pub(crate) fn string(alloc: Global, t: &Ty, at: usize, text: &Text) -> Result<Val, DataRefusal>
-    ensures { Answers (λ v. v) (string at text.now (out-Ty t.now)) result }
+    ensures { AnswersUnlessFull node_fault (λ v. v) result (string at text.now (out-Ty t.now)) }
 {
     match t {
         Ty::Text => Ok(Val::Text(text.copy(alloc)?)),
@@ -43,7 +44,7 @@ pub(crate) fn string(alloc: Global, t: &Ty, at: usize, text: &Text) -> Result<Va
 }
 
 pub(crate) fn bytes(alloc: Global, t: &Ty, at: usize, blob: &Blob) -> Result<Val, DataRefusal>
-    ensures { Answers (λ v. v) (bytes at blob.now (out-Ty t.now)) result }
+    ensures { AnswersUnlessFull node_fault (λ v. v) result (bytes at blob.now (out-Ty t.now)) }
 {
     match t {
         Ty::Bytes => Ok(Val::Bytes(blob.copy(alloc)?)),

@@ -7,7 +7,7 @@ ghost use Rattle.micheline_text.specs.Printed.{printed};
 ghost use Rattle.micheline_text.specs.declared.node.Body.TheVariants as body;
 ghost use Rattle.data_nodes.specs.Nodes.{applied, node, word};
 ghost use Rattle.value_core.specs.Combs.{comb};
-ghost use Rattle.data_nodes.specs.Printed.{IsReadAgain, is_printable, node_of};
+ghost use Rattle.data_nodes.specs.Printed.{IsReadAgain, is_printed_whole, node_of};
 ghost use Rattle.data_nodes.specs.Printing.{entry_of, paired};
 
 use micheline_text::{Body, NoMemory, Node, print_node};
@@ -22,7 +22,7 @@ pub fn print_data(alloc: Global, v: &Val) -> Result<Vec<u8>, NoMemory>
     // It is a text of one node, which is data and a storage of each type of the value, so it is
     // read again as that.
     ensures again { IfOk result (λ text.
-        IsTrue (is_printable v.now) → depth_of v.now ≤ 128 → IsReadAgain text.items v.now) }
+        IsTrue (is_printed_whole v.now) → depth_of v.now ≤ 128 → IsReadAgain text.items v.now) }
 {
     leaves_are_lawful(v);
     print_node(alloc, &data_node(alloc, v)?)

@@ -1,12 +1,13 @@
 //! Nodes read at a type.
 
-ghost use Rattle.std.specs.Prelude.{◌≡◌, ◌≤◌, IfErr, IfOk, IsTrue, length, map};
+ghost use Rattle.std.specs.Prelude.{◌≡◌, ◌≤◌, IfErr, IfOk, IsTrue, Ok, length, map};
 ghost use Rattle.std.specs.Str.{bytes_eq};
 ghost use Rattle.value_core.specs.declared.ty.Ty.TheViews.{out-Ty};
 ghost use Rattle.value_core.specs.declared.val.Val.{Val};
 ghost use Rattle.value_core.specs.Size.{size_of};
 ghost use Rattle.value_core.specs.Sound.{is_countable, is_plain};
-ghost use Rattle.data_nodes.specs.Answers.{Answers, Gives, Refuses, Tells};
+ghost use Rattle.micheline_text.specs.Told.{AnswersUnlessFull, IsTold};
+ghost use Rattle.data_nodes.specs.Told.{Tells, node_fault};
 ghost use Rattle.data_nodes.specs.FirstFault.{IsDataFault};
 ghost use Rattle.data_nodes.specs.Data.{IsData};
 ghost use Rattle.data_nodes.specs.Readers.{comb, is_comb_of, pair};
@@ -30,17 +31,18 @@ pub fn read_data(alloc: Global, t: &Ty, n: &Node) -> Result<Val, DataRefusal>
     // It may be written and kept: no contract, operation or big map stands in it.
     ensures plain { IfOk result (λ v. IsTrue (is_plain v)) }
     // Such data is read, unless memory runs out.
-    ensures only { (v : Val) → IsData t.now n.now v → size_of v ≤ 4096 → Gives v result }
+    ensures only { (v : Val) → IsData t.now n.now v → size_of v ≤ 4096 →
+        AnswersUnlessFull node_fault (λ v. v) result (Ok v) }
     // The fault is the one that stands before all others, or that the value is too large.
     ensures first { IfErr result (Tells (IsDataFault t.now n.now)) }
     // So it is what a reader from the left comes upon.
-    ensures fault { IfErr result (Refuses (data_read t.now n.now)) }
+    ensures fault { IfErr result (λ e. IsTold (node_fault e) (data_read t.now n.now)) }
 {
     read_small(alloc, t, n)
 }
 
 fn read_small(alloc: Global, t: &Ty, n: &Node) -> Result<Val, DataRefusal>
-    ensures { Answers (λ v. v) (data_read t.now n.now) result }
+    ensures { AnswersUnlessFull node_fault (λ v. v) result (data_read t.now n.now) }
 {
     let v = value(alloc, t, n)?;
     if size(&v) > LARGEST {
@@ -58,7 +60,7 @@ pub(crate) fn is_word(name: &[u8], word: &str) -> bool
 /// What the node says at the type, of any size.
 #[cycle(reading)]
 pub(crate) fn value(alloc: Global, t: &Ty, n: &Node) -> Result<Val, DataRefusal>
-    ensures { Answers (λ v. v) (storage_read t.now n.now) result }
+    ensures { AnswersUnlessFull node_fault (λ v. v) result (storage_read t.now n.now) }
 {
     let at = n.at as usize;
     match &n.body {
@@ -72,7 +74,8 @@ pub(crate) fn value(alloc: Global, t: &Ty, n: &Node) -> Result<Val, DataRefusal>
 
 #[cycle(reading)]
 fn applied(alloc: Global, t: &Ty, at: usize, name: &[u8], args: &[Node]) -> Result<Val, DataRefusal>
-    ensures { Answers (λ v. v) (applied at name.now (map reader args.now) t.now) result }
+    ensures { AnswersUnlessFull node_fault (λ v. v) result
+        (applied at name.now (map reader args.now) t.now) }
 {
     match args {
         [] => alone(t, at, name),
@@ -83,7 +86,7 @@ fn applied(alloc: Global, t: &Ty, at: usize, name: &[u8], args: &[Node]) -> Resu
 }
 
 fn alone(t: &Ty, at: usize, name: &[u8]) -> Result<Val, DataRefusal>
-    ensures { Answers (λ v. v) (alone at name.now (out-Ty t.now)) result }
+    ensures { AnswersUnlessFull node_fault (λ v. v) result (alone at name.now (out-Ty t.now)) }
 {
     match t {
         Ty::Unit if is_word(name, "Unit") => Ok(Val::Unit),
@@ -96,7 +99,8 @@ fn alone(t: &Ty, at: usize, name: &[u8]) -> Result<Val, DataRefusal>
 
 #[cycle(reading)]
 fn with_one(alloc: Global, t: &Ty, at: usize, name: &[u8], part: &Node) -> Result<Val, DataRefusal>
-    ensures { Answers (λ v. v) (with_one at name.now (reader part.now) (out-Ty t.now)) result }
+    ensures { AnswersUnlessFull node_fault (λ v. v) result
+        (with_one at name.now (reader part.now) (out-Ty t.now)) }
 {
     match t {
         Ty::Option(t) if is_word(name, "Some") => Ok(some(alloc, value(alloc, t.get(), part)?)?),
@@ -109,7 +113,7 @@ fn with_one(alloc: Global, t: &Ty, at: usize, name: &[u8], part: &Node) -> Resul
 /// The items of a pair, if there are two at least and no more than its type has.
 #[cycle(reading)]
 fn pair_of(alloc: Global, t: &Ty, at: usize, nodes: &[Node]) -> Result<Val, DataRefusal>
-    ensures { Answers (λ v. v) (pair at (map reader nodes.now) t.now) result }
+    ensures { AnswersUnlessFull node_fault (λ v. v) result (pair at (map reader nodes.now) t.now) }
 {
     if nodes.len() < 2 || !is_comb_of(nodes, t) {
         return Err(shape(at));
@@ -139,7 +143,7 @@ fn is_comb_of(nodes: &[Node], t: &Ty) -> bool
 /// The items of a comb in a loop, since a flat `Pair` may have millions.
 #[cycle(reading)]
 fn comb(alloc: Global, t: &Ty, at: usize, nodes: &[Node]) -> Result<Val, DataRefusal>
-    ensures { Answers (λ v. v) (comb at (map reader nodes.now) t.now) result }
+    ensures { AnswersUnlessFull node_fault (λ v. v) result (comb at (map reader nodes.now) t.now) }
 {
     let mut firsts = Items::new(alloc);
     let (mut left, mut behind) = (nodes, t);
@@ -165,7 +169,8 @@ fn comb(alloc: Global, t: &Ty, at: usize, nodes: &[Node]) -> Result<Val, DataRef
 /// The nodes in braces.
 #[cycle(reading)]
 fn sequence(alloc: Global, t: &Ty, at: usize, nodes: &[Node]) -> Result<Val, DataRefusal>
-    ensures { Answers (λ v. v) (sequence at (map reader nodes.now) t.now (out-Ty t.now)) result }
+    ensures { AnswersUnlessFull node_fault (λ v. v) result
+        (sequence at (map reader nodes.now) t.now (out-Ty t.now)) }
 {
     match t {
         Ty::Pair(_, _) => pair_of(alloc, t, at, nodes),

@@ -7,10 +7,11 @@ ghost use Rattle.value_core.specs.BigMaps.{big_maps_of};
 ghost use Rattle.value_core.specs.Combs.{comb};
 ghost use Rattle.value_core.specs.Sound.{is_plain};
 ghost use Rattle.value_core.specs.Typed.{has_type};
-ghost use Rattle.data_nodes.specs.Answers.{Answers, GivesAs, Tells};
+ghost use Rattle.micheline_text.specs.Told.{AnswersUnlessFull};
+ghost use Rattle.data_nodes.specs.Told.{Tells, node_fault};
 ghost use Rattle.data_nodes.specs.FirstFault.{IsFirstFault};
 ghost use Rattle.data_nodes.specs.Faults.{storage_read};
-ghost use Rattle.data_nodes.specs.Parts.{IsPart, parted, tagged};
+ghost use Rattle.data_nodes.specs.Parts.{BecomesKept, parted, tagged};
 ghost use Rattle.data_nodes.specs.Readers.{then_read};
 ghost use Rattle.data_nodes.specs.Storage.{IsStorage, Kept, with_maps};
 
@@ -96,7 +97,7 @@ fn part(
     requires few { first + length (big_maps_of t.now) ≤ 16 }
     requires typed { IsTrue (has_type v (with_maps t.now)) }
     ensures { IfOk result (λ r.
-        IsPart t.now v first entries.old.items r.0 entries.new.items r.1) }
+        BecomesKept t.now v first entries.old.items r.0 entries.new.items r.1) }
 {
     let mut firsts = Items::new(alloc);
     let (mut kind, mut rest, mut next) = (t, v, first);
@@ -128,7 +129,7 @@ fn last_part(
     requires typed { IsTrue (has_type v (with_maps t.now)) }
     requires unpaired { (s u : Ty) → t.now ≢ Ty.Pair s u }
     ensures { IfOk result (λ r.
-        IsPart t.now v first entries.old.items r.0 entries.new.items r.1) }
+        BecomesKept t.now v first entries.old.items r.0 entries.new.items r.1) }
 {
     match t {
         Ty::BigMap(_, _) => match v.into_entries() {
@@ -154,7 +155,8 @@ pub fn read_storage(
     ensures found { IfOk result (λ r. IsStorage t.now n.now (r.0, r.1.items)) }
     // Such a storage is read, unless memory runs out.
     ensures only { (kept : Kept) →
-        IsStorage t.now n.now kept → GivesAs (λ r. (r.0, r.1.items)) kept result }
+        IsStorage t.now n.now kept →
+        AnswersUnlessFull node_fault (λ r. (r.0, r.1.items)) result (Ok kept) }
     // It may be written and kept, with the keys and values of its big maps.
     ensures plain { IfOk result (λ r. IsTrue (is_plain r.0)) }
     ensures entries { IfOk result (λ r.
@@ -167,8 +169,8 @@ pub fn read_storage(
 
 fn read_parted(alloc: Global, t: &Ty, n: &Node) -> Result<(Val, Vec<(u8, Val, Val)>), DataRefusal>
     requires few { length (big_maps_of t.now) ≤ 16 }
-    ensures { Answers (λ r. (r.0, r.1.items))
-        (then_read (storage_read (with_maps t.now) n.now) (λ v. Ok (parted t.now v))) result }
+    ensures { AnswersUnlessFull node_fault (λ r. (r.0, r.1.items)) result
+        (then_read (storage_read (with_maps t.now) n.now) (λ v. Ok (parted t.now v))) }
 {
     let written = with_maps(alloc, t)?;
     let v = value(alloc, &written, n)?;

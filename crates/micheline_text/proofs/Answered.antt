@@ -5,7 +5,7 @@ use Rattle.micheline_text.specs.declared.fault.TextFault.{TextFault}
 use Rattle.micheline_text.specs.declared.fault.TextFault.TheVariants as faults
 use Rattle.micheline_text.specs.declared.node.Node.{Node}
 use Rattle.micheline_text.specs.Faults.{IsFault, IsFaultOf}
-use Rattle.micheline_text.specs.Told.{AnswersUnlessFull}
+use Rattle.micheline_text.specs.Told.{AnswersUnlessFull, text_fault}
 use Rattle.micheline_text.specs.Grammar.{Tokens, IsText}
 use Rattle.micheline_text.specs.Lexing.{tokens_of}
 use Rattle.micheline_text.specs.Reading.{reading}
@@ -38,14 +38,14 @@ fault_read b f (ts, cut, is) = fault_is_told (length b) (tokens_of 0 b) f (subst
 
 -- ---- what the reader tells
 
-pub found : (b : List ℕ) (told : Result (List Node) TextFault) → AnswersUnlessFull (λ ns. ns) told (reading b) → IfOk told (λ ns. IsTextOf b ns)
+pub found : (b : List ℕ) (told : Result (List Node) TextFault) → AnswersUnlessFull text_fault (λ ns. ns) told (reading b) → IfOk told (λ ns. IsTextOf b ns)
 found b (Ok ns) e = read_text b ns e
 found b (Err f) e = tt
 
-pub only : (b : List ℕ) (told : Result (List Node) TextFault) (ns : List Node) → AnswersUnlessFull (λ x. x) told (reading b) → IsTextOf b ns → AnswersUnlessFull (λ x. x) told (Ok ns)
-only b told ns e text = subst (AnswersUnlessFull (λ x. x) told) (text_read b ns text) e
+pub only : (b : List ℕ) (told : Result (List Node) TextFault) (ns : List Node) → AnswersUnlessFull text_fault (λ x. x) told (reading b) → IsTextOf b ns → AnswersUnlessFull text_fault (λ x. x) told (Ok ns)
+only b told ns e text = subst (AnswersUnlessFull text_fault (λ x. x) told) (text_read b ns text) e
 
-pub fault : (b : List ℕ) (told : Result (List Node) TextFault) → AnswersUnlessFull (λ ns. ns) told (reading b) → IfErr told (λ f. (f ≡ faults.NoMemory) ⊎ IsFaultOf b f)
+pub fault : (b : List ℕ) (told : Result (List Node) TextFault) → AnswersUnlessFull text_fault (λ ns. ns) told (reading b) → IfErr told (λ f. (f ≡ faults.NoMemory) ⊎ IsFaultOf b f)
 fault b (Ok ns) e = tt
 fault b (Err faults.NoMemory) e = inl refl
 fault b (Err (faults.BadToken p)) e = inr (read_fault b (faults.BadToken p) e)

@@ -1,7 +1,7 @@
 //! What stands in the innermost list or application that is open.
 
 ghost use Rattle.std.specs.Prelude.{◌≡◌, ◌++◌, ◌∷◌, [], IfOk, true, false};
-ghost use Rattle.micheline_text.specs.Told.{AnswersUnlessFull};
+ghost use Rattle.micheline_text.specs.Told.{AnswersUnlessFull, text_fault};
 ghost use Rattle.micheline_text.specs.Reading.{applied, begun, ended, named, node_of, noted, parted, taken, takes_argument, takes_literal, with_arg, with_note};
 
 use crate::NoMemory;
@@ -111,7 +111,7 @@ fn with_node(nodes: Items<Node>, node: Node) -> Result<Items<Node>, NoMemory>
 
 /// After a node, a literal, a sequence or a parenthesis, whose last token is at the place.
 pub(crate) fn taken(at: usize, level: Level, node: Node) -> Result<Level, TextFault>
-    ensures { AnswersUnlessFull (λ l. l) result (taken at level node) }
+    ensures { AnswersUnlessFull text_fault (λ l. l) result (taken at level node) }
 {
     match level {
         Level::Start(nodes) => Ok(Level::After(with_node(nodes, node)?)),
@@ -128,7 +128,7 @@ pub(crate) fn named(
     level: Level,
     word: Items<u8>,
 ) -> Result<Level, TextFault>
-    ensures { AnswersUnlessFull (λ l. l) result (named at level word) }
+    ensures { AnswersUnlessFull text_fault (λ l. l) result (named at level word) }
 {
     let a = begun(alloc, at, word);
     match level {
@@ -142,7 +142,7 @@ pub(crate) fn named(
 
 /// After an annotation.
 pub(crate) fn noted(at: usize, level: Level, note: Items<u8>) -> Result<Level, TextFault>
-    ensures { AnswersUnlessFull (λ l. l) result (noted at level note) }
+    ensures { AnswersUnlessFull text_fault (λ l. l) result (noted at level note) }
 {
     match level {
         Level::Args(nodes, a) => Ok(Level::Args(nodes, with_note(a, note)?)),
@@ -153,7 +153,7 @@ pub(crate) fn noted(at: usize, level: Level, note: Items<u8>) -> Result<Level, T
 
 /// After a `;`.
 pub(crate) fn parted(at: usize, level: Level) -> Result<Level, TextFault>
-    ensures { AnswersUnlessFull (λ l. l) result (parted at level) }
+    ensures { AnswersUnlessFull text_fault (λ l. l) result (parted at level) }
 {
     match level {
         Level::After(nodes) => Ok(Level::Start(nodes)),
@@ -164,7 +164,7 @@ pub(crate) fn parted(at: usize, level: Level) -> Result<Level, TextFault>
 
 /// The nodes of a list that ends at the place.
 pub(crate) fn ended(at: usize, level: Level) -> Result<Items<Node>, TextFault>
-    ensures { AnswersUnlessFull (λ ns. ns) result (ended at level) }
+    ensures { AnswersUnlessFull text_fault (λ ns. ns) result (ended at level) }
 {
     match level {
         Level::Start(nodes) | Level::After(nodes) => Ok(nodes),
@@ -175,7 +175,7 @@ pub(crate) fn ended(at: usize, level: Level) -> Result<Items<Node>, TextFault>
 
 /// The application of a parenthesis that ends at the place.
 pub(crate) fn applied(at: usize, level: Level) -> Result<Node, TextFault>
-    ensures { AnswersUnlessFull (λ n. n) result (applied at level) }
+    ensures { AnswersUnlessFull text_fault (λ n. n) result (applied at level) }
 {
     match level {
         Level::Inner(a) => Ok(node_of(a)),

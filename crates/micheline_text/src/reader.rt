@@ -5,7 +5,7 @@ ghost use Rattle.micheline_text.specs.declared.node.Node.{Node};
 ghost use Rattle.micheline_text.specs.Faults.{IsFaultOf};
 ghost use Rattle.micheline_text.specs.declared.fault.TextFault.TheVariants.{NoMemory};
 ghost use Rattle.micheline_text.specs.Text.{IsTextOf};
-ghost use Rattle.micheline_text.specs.Told.{AnswersUnlessFull};
+ghost use Rattle.micheline_text.specs.Told.{AnswersUnlessFull, text_fault};
 ghost use Rattle.micheline_text.specs.Lexing.{tokens_of};
 ghost use Rattle.micheline_text.specs.Reading.{close_brace, close_paren, finish, first_open, opened, reading, shown, step, taken, within};
 ghost use Rattle.micheline_text.specs.Grammar.{node_at};
@@ -43,7 +43,8 @@ fn first_open(opens: &Pile<Open>, at: usize) -> usize
 }
 
 fn opened(allowed: bool, inner: Level, at: u32, state: State) -> Result<State, TextFault>
-    ensures { AnswersUnlessFull shown result (opened allowed inner at state.level state.opens) }
+    ensures { AnswersUnlessFull text_fault shown result
+        (opened allowed inner at state.level state.opens) }
 {
     if !allowed {
         return Err(TextFault::BadToken(at as usize));
@@ -60,7 +61,7 @@ fn opened(allowed: bool, inner: Level, at: u32, state: State) -> Result<State, T
 }
 
 fn close_brace(at: usize, state: State) -> Result<State, TextFault>
-    ensures { AnswersUnlessFull shown result (close_brace at state.level state.opens) }
+    ensures { AnswersUnlessFull text_fault shown result (close_brace at state.level state.opens) }
 {
     let State { level, mut opens } = state;
     let Some(open) = opens.pop() else {
@@ -73,7 +74,7 @@ fn close_brace(at: usize, state: State) -> Result<State, TextFault>
 }
 
 fn close_paren(at: usize, state: State) -> Result<State, TextFault>
-    ensures { AnswersUnlessFull shown result (close_paren at state.level state.opens) }
+    ensures { AnswersUnlessFull text_fault shown result (close_paren at state.level state.opens) }
 {
     let State { level, mut opens } = state;
     let Some(open) = opens.pop() else {
@@ -84,7 +85,7 @@ fn close_paren(at: usize, state: State) -> Result<State, TextFault>
 }
 
 fn literal(at: u32, body: Body, state: State) -> Result<State, TextFault>
-    ensures { AnswersUnlessFull shown result
+    ensures { AnswersUnlessFull text_fault shown result
         (within state.opens (taken at state.level (node_at at body))) }
 {
     let State { level, opens } = state;
@@ -93,7 +94,7 @@ fn literal(at: u32, body: Body, state: State) -> Result<State, TextFault>
 }
 
 fn step(alloc: Global, at: u32, token: Token, state: State) -> Result<State, TextFault>
-    ensures { AnswersUnlessFull shown result (step at token state.level state.opens) }
+    ensures { AnswersUnlessFull text_fault shown result (step at token state.level state.opens) }
 {
     let place = at as usize;
     match token {
@@ -135,7 +136,7 @@ fn step(alloc: Global, at: u32, token: Token, state: State) -> Result<State, Tex
 }
 
 fn finish(at: usize, state: State) -> Result<Items<Node>, TextFault>
-    ensures { AnswersUnlessFull (λ ns. ns) result (finish at state.level state.opens) }
+    ensures { AnswersUnlessFull text_fault (λ ns. ns) result (finish at state.level state.opens) }
 {
     let State { level, opens } = state;
     if opens.len() == 0 {
@@ -184,7 +185,7 @@ fn next(alloc: Global, b: &[u8], at: usize) -> Result<Option<Found>, NoMemory>
 
 fn read(alloc: Global, b: &[u8]) -> Result<Items<Node>, TextFault>
     requires { length b.now < 2 ^ 32 }
-    ensures { AnswersUnlessFull (λ ns. ns) result (reading b.now) }
+    ensures { AnswersUnlessFull text_fault (λ ns. ns) result (reading b.now) }
 {
     let mut state = State {
         level: Level::Start(Items::new(alloc)),
@@ -207,7 +208,7 @@ pub fn read_nodes(alloc: Global, b: &[u8]) -> Result<Items<Node>, TextFault>
     ensures found { IfOk result (λ ns. IsTextOf b.now ns) }
     // What is a text of the grammar is read, unless memory runs out.
     ensures only { (ns : List Node) →
-        IsTextOf b.now ns → AnswersUnlessFull (λ x. x) result (Ok ns) }
+        IsTextOf b.now ns → AnswersUnlessFull text_fault (λ x. x) result (Ok ns) }
     // A fault is the first one: up to it a text of the grammar goes on, and with it none does.
     ensures fault { IfErr result (λ f. (f ≡ NoMemory) ⊎ IsFaultOf b.now f) }
 {

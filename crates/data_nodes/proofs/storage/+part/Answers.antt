@@ -7,7 +7,7 @@ use Rattle.value_core.specs.declared.val.Val.{Val}
 use Rattle.value_core.specs.declared.val.Val.TheVariants as value
 use Rattle.value_core.specs.BigMaps.{big_maps_of}
 use Rattle.value_core.specs.Combs.{comb}
-use Rattle.data_nodes.specs.Parts.{IsPart}
+use Rattle.data_nodes.specs.Parts.{BecomesKept}
 use Rattle.data_nodes.proofs.Partings.{count-pair, parts_typed, tells_more}
 use Rattle.data_nodes.proofs.storage.+part.Goals as goal
 
@@ -31,7 +31,7 @@ loop-kind-preserved t c =
     c.args.first c.loop-kind.next c.in_ok-x-in-Ok.place c.args.entries.now.items c.loop-kind.entries.items c.part.new.entries.items c.loop-kind.firsts
     type_is c.in-Ok.ensures.pair c.loop-kind.invariant.tells c.in_ok-x-in-Ok.ensures in
     record {
-      tells = λ y all last q. subst (λ (l : List Val). IsPart c.args.t.now c.args.v c.args.first c.args.entries.now.items (comb value.Pair l y) all last) (sym c.in_ok-push-in-Ok.ensures.ok) (more y all last q);
+      tells = λ y all last q. subst (λ (l : List Val). BecomesKept c.args.t.now c.args.v c.args.first c.args.entries.now.items (comb value.Pair l y) all last) (sym c.in_ok-push-in-Ok.ensures.ok) (more y all last q);
       typed = rw c.get-kind.ensures typed.1;
       few = omega (arith, c.loop-kind.invariant.few, count-pair c.loop-kind.kind.now c.in-Pair.s c.in-Pair.u c.in-Pair.is, ap (λ (r : Ty). length (big_maps_of r)) c.get.ensures, ap (λ (r : Ty). length (big_maps_of r)) c.get-kind.ensures, c.in_ok-x-in-Ok.ensures.1);
       no_deeper = omega (arith, smaller, ap size-Ty c.get-kind.ensures, c.loop-kind.invariant.no_deeper);
