@@ -22,13 +22,13 @@ use Rattle.michelson_code.proofs.Types.{kind-shown, kind_shown, level_kind, leve
 
 -- ---- the top of the stack
 
-abbrev itself : Ty → Ty
+abbrev pub itself : Ty → Ty
 itself t = t
 
-abbrev kind_of : Ty → ℕ
+abbrev pub kind_of : Ty → ℕ
 kind_of t = kind_shown (out-Ty t)
 
-kind_is : (x : Level Ty) → kind_of (level_type itself x) ≡ level_kind x
+pub kind_is : (x : Level Ty) → kind_of (level_type itself x) ≡ level_kind x
 kind_is x = ap kind_shown (shows itself x) ∙ kind-shown itself x
 
 built : (x : Level Ty) (t : Ty) → out-Ty t ≡ level_shown itself x → level_type itself x ≡ t
@@ -46,7 +46,7 @@ bool_cases false = inr refl
 
 module _ {A : Type 0} where
   -- the kinds of types that stand on top where the instruction may begin
-  abbrev top_fits : Instr-F A → ℕ → Bool
+  abbrev pub top_fits : Instr-F A → ℕ → Bool
   top_fits (one.If c d) k = k == 1
   top_fits (one.IfNone c d) k = k == 9
   top_fits (one.IfLeft c d) k = k == 10
@@ -57,7 +57,7 @@ module _ {A : Type 0} where
   top_fits (one.Map c) k = (k == 12) || (k == 14)
   top_fits _ k = true
 
-  top_of_runs : (x : Instr-F A) (b : List Ty) (st : List Start) (es : List Outcome) (o : Outcome) → Runs x b st es o → (t : Ty) (r : List Ty) → b ≡ t ∷ r → top_fits x (kind_of t) ≡ true
+  pub top_of_runs : (x : Instr-F A) (b : List Ty) (st : List Start) (es : List Outcome) (o : Outcome) → Runs x b st es o → (t : Ty) (r : List Ty) → b ≡ t ∷ r → top_fits x (kind_of t) ≡ true
   top_of_runs x b st es o (dip c a u v) t r same = refl
   top_of_runs x b st es o (dip_n n c items u v long) t r same = refl
   top_of_runs x b st es o (if_true c d u e f p j) t r same = at_kind (top_fits (one.If c d)) type.Bool t u r 1 same (kind_is level.Bool) refl
@@ -135,7 +135,7 @@ module _ {A : Type 0} where
   open_top one.Drop t r y is topped = absurd topped
   open_top x t r y is topped = absurd topped
 
-  abbrev is_running : Instr-F A → Bool
+  abbrev pub is_running : Instr-F A → Bool
   is_running (one.Dip c) = true
   is_running (one.DipN n c) = true
   is_running (one.If c d) = true
@@ -149,7 +149,7 @@ module _ {A : Type 0} where
   is_running one.Failwith = true
   is_running _ = false
 
-  running : (x : Instr-F A) (b : List Ty) (st : List Start) (es : List Outcome) (o : Outcome) → Runs x b st es o → is_running x ≡ true
+  pub running : (x : Instr-F A) (b : List Ty) (st : List Start) (es : List Outcome) (o : Outcome) → Runs x b st es o → is_running x ≡ true
   running x b st es o (dip c a u v) = refl
   running x b st es o (dip_n n c items u v long) = refl
   running x b st es o (if_true c d u e f p j) = refl
@@ -174,7 +174,7 @@ module _ {A : Type 0} where
   empty : (x : Instr-F A) → lines x ≡ [] → items_taken x ≡ 1 → Decided (Opened x [])
   empty x none takes = too_short x [] (without_line none (let nothing : length {A = Ty} [] ≡ 0 = refl in omega arith))
 
-  raised_top : (b : List Ty) (st : List Start) (es : List Outcome) (o : Outcome) → Runs {A = A} one.Failwith b st es o → (t : Ty) (r : List Ty) → b ≡ t ∷ r → is_passable t ≡ true
+  pub raised_top : (b : List Ty) (st : List Start) (es : List Outcome) (o : Outcome) → Runs {A = A} one.Failwith b st es o → (t : Ty) (r : List Ty) → b ≡ t ∷ r → is_passable t ≡ true
   raised_top b st es o (failwith a u may) t r same = let top : a ≡ t = cc in ap is_passable (sym top) ∙ may
 
   raises : (t : Ty) (r : List Ty) → (is_passable t ≡ true) ⊎ (is_passable t ≡ false) → Decided (Opened one.Failwith (t ∷ r))

@@ -46,7 +46,7 @@ module _ {A : Type 0} where
     too_early : FailsInside x fs → Ended x b fs
     otherwise : (FailsInside x fs → ⊥) → ((st : List Start) (o : Outcome) → Runs x b st fs o → ⊥) → Ended x b fs
 
-  abbrev may_fail : Instr-F A → Bool
+  abbrev pub may_fail : Instr-F A → Bool
   may_fail (one.Dip c) = false
   may_fail (one.DipN n c) = false
   may_fail (one.Map c) = false
@@ -57,12 +57,12 @@ module _ {A : Type 0} where
   strict x fs (in_dip_n n c) = refl
   strict x fs (in_map c) = refl
 
-  lenient : (x : Instr-F A) (fs : List Outcome) → may_fail x ≡ true → FailsInside x fs → ⊥
+  pub lenient : (x : Instr-F A) (fs : List Outcome) → may_fail x ≡ true → FailsInside x fs → ⊥
   lenient x fs may inside = let never : may_fail x ≡ false = strict x fs inside in cc
 
   -- ---- what the ends of bodies say of the line
 
-  two_joined : (x : Instr-F A) (b : List Ty) (st : List Start) (es : List Outcome) (o : Outcome) → Runs x b st es o → (e f : Outcome) → es ≡ e ∷ f ∷ [] → Joined e f o
+  pub two_joined : (x : Instr-F A) (b : List Ty) (st : List Start) (es : List Outcome) (o : Outcome) → Runs x b st es o → (e f : Outcome) → es ≡ e ∷ f ∷ [] → Joined e f o
   two_joined x b st es o (dip c a u v) e f same = cc
   two_joined x b st es o (dip_n n c items u v long) e f same = cc
   two_joined x b st es o (if_true c d u e' f' p j) e f same = let first : e' ≡ e = cc in let second : f' ≡ f = cc in subst (λ z. Joined z f o) first (subst (λ z. Joined e' z o) second j)
@@ -78,18 +78,18 @@ module _ {A : Type 0} where
   two_joined x b st es o (map_map c k v r u) e f same = cc
   two_joined x b st es o (failwith a u may) e f same = cc
 
-  loop_ends : (c : List A) (b : List Ty) (st : List Start) (es : List Outcome) (o : Outcome) → Runs (one.Loop c) b st es o → (e : Outcome) → es ≡ e ∷ [] → EndsWith b e
+  pub loop_ends : (c : List A) (b : List Ty) (st : List Start) (es : List Outcome) (o : Outcome) → Runs (one.Loop c) b st es o → (e : Outcome) → es ≡ e ∷ [] → EndsWith b e
   loop_ends c b st es o (loop c' u e' q) e same = let only : e' ≡ e = cc in subst (EndsWith b) only q
 
-  loop_left_ends : (c : List A) (b : List Ty) (st : List Start) (es : List Outcome) (o : Outcome) → Runs (one.LoopLeft c) b st es o → (e : Outcome) → es ≡ e ∷ [] → EndsWith b e
+  pub loop_left_ends : (c : List A) (b : List Ty) (st : List Start) (es : List Outcome) (o : Outcome) → Runs (one.LoopLeft c) b st es o → (e : Outcome) → es ≡ e ∷ [] → EndsWith b e
   loop_left_ends c b st es o (loop_left c' l r u e' q) e same = let only : e' ≡ e = cc in subst (EndsWith b) only q
 
-  iter_ends : (c : List A) (b : List Ty) (st : List Start) (es : List Outcome) (o : Outcome) → Runs (one.Iter c) b st es o → (t : Ty) (r : List Ty) → b ≡ t ∷ r → (e : Outcome) → es ≡ e ∷ [] → EndsWith r e
+  pub iter_ends : (c : List A) (b : List Ty) (st : List Start) (es : List Outcome) (o : Outcome) → Runs (one.Iter c) b st es o → (t : Ty) (r : List Ty) → b ≡ t ∷ r → (e : Outcome) → es ≡ e ∷ [] → EndsWith r e
   iter_ends c b st es o (iter_list c' a u e' q) t r stack e same = let only : e' ≡ e = cc in let below : u ≡ r = cc in subst (λ z. EndsWith z e) below (subst (EndsWith u) only q)
   iter_ends c b st es o (iter_set c' a u e' q) t r stack e same = let only : e' ≡ e = cc in let below : u ≡ r = cc in subst (λ z. EndsWith z e) below (subst (EndsWith u) only q)
   iter_ends c b st es o (iter_map c' k v u e' q) t r stack e same = let only : e' ≡ e = cc in let below : u ≡ r = cc in subst (λ z. EndsWith z e) below (subst (EndsWith u) only q)
 
-  map_ends : (c : List A) (b : List Ty) (st : List Start) (es : List Outcome) (o : Outcome) → Runs (one.Map c) b st es o → (t : Ty) (r : List Ty) → b ≡ t ∷ r → (w : List Ty) → es ≡ To w ∷ [] → (v : Ty) × (w ≡ v ∷ r)
+  pub map_ends : (c : List A) (b : List Ty) (st : List Start) (es : List Outcome) (o : Outcome) → Runs (one.Map c) b st es o → (t : Ty) (r : List Ty) → b ≡ t ∷ r → (w : List Ty) → es ≡ To w ∷ [] → (v : Ty) × (w ≡ v ∷ r)
   map_ends c b st es o (map_list c' a m u) t r stack w same = let left : To (m ∷ u) ≡ To w = cc in let all : m ∷ u ≡ w = cc in let below : u ≡ r = cc in (m, sym all ∙ (λ i. m ∷ below i))
   map_ends c b st es o (map_map c' k v m u) t r stack w same = let left : To (m ∷ u) ≡ To w = cc in let all : m ∷ u ≡ w = cc in let below : u ≡ r = cc in (m, sym all ∙ (λ i. m ∷ below i))
 
@@ -115,7 +115,7 @@ module _ {A : Type 0} where
   inside_only x fs (in_dip_n n c) = refl
   inside_only x fs (in_map c) = refl
 
-  goes_in : (x : Instr-F A) (w : List Ty) → FailsInside x (To w ∷ []) → ⊥
+  pub goes_in : (x : Instr-F A) (w : List Ty) → FailsInside x (To w ∷ []) → ⊥
   goes_in x w inside = let same : To w ∷ [] ≡ Fails ∷ [] = inside_only x (To w ∷ []) inside in cc
 
   maps : (c : List A) (t : Ty) (r : List Ty) (st : List Start) (e : Outcome) → ((v : Ty) → (o : Outcome) × Runs (one.Map c) (t ∷ r) st (To (v ∷ r) ∷ []) o) → Ended (one.Map c) (t ∷ r) (e ∷ [])

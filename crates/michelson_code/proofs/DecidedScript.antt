@@ -11,7 +11,7 @@ use Rattle.michelson_code.specs.declared.script.Script.{Script}
 use Rattle.michelson_code.specs.declared.type_fault.TypeKind.{TypeKind}
 use Rattle.michelson_code.specs.declared.type_fault.TypeKind.TheVariants as kind
 use Rattle.michelson_code.specs.Brackets.{script_brackets}
-use Rattle.michelson_code.specs.Entries.{Entry}
+use Rattle.michelson_code.specs.Entries.{NamedEntry}
 use Rattle.michelson_code.specs.FirstFault.{ScriptFault, WholeBreaks, of_the_code, of_the_end, of_the_whole}
 use Rattle.michelson_code.specs.Printable.{are_entries_of}
 use Rattle.michelson_code.specs.TypedScript.{AreNamedApart, IsTypedScript, first_stack, last_stack}
@@ -37,14 +37,14 @@ stable : {P : Type 0} → Decided P → ((P → ⊥) → ⊥) → P
 stable (inl p) never = p
 stable (inr none) never = absurd (never none)
 
-named_apart : (e f : Entry) → Decided (AreNamedApart e f)
+named_apart : (e f : NamedEntry) → Decided (AreNamedApart e f)
 named_apart e f = go (bytes_eq e.1 f.1) refl
   where
     go : (r : Bool) → bytes_eq e.1 f.1 ≡ r → Decided (AreNamedApart e f)
     go true is = inr (λ apart. apart ((bytes_eq-Decides e.1 f.1).0 is))
     go false is = inl (λ same. let equal : bytes_eq e.1 f.1 ≡ true = (bytes_eq-Decides e.1 f.1).1 same in cc)
 
-apart_from_all : (e : Entry) (names : List Entry) → Decided (All (AreNamedApart e) names)
+apart_from_all : (e : NamedEntry) (names : List NamedEntry) → Decided (All (AreNamedApart e) names)
 apart_from_all e [] = inl (λ k d less. absurd (omega arith))
 apart_from_all e (f ∷ names) = go (named_apart e f) (apart_from_all e names)
   where
@@ -53,7 +53,7 @@ apart_from_all e (f ∷ names) = go (named_apart e f) (apart_from_all e names)
     go (inl first) (inr not) = inr (λ all. not (All-tail (AreNamedApart e) f names all))
     go (inr not) rest = inr (λ all. not (All-head (AreNamedApart e) f names all))
 
-names_apart : (names : List Entry) → Decided (AllPairs AreNamedApart names)
+names_apart : (names : List NamedEntry) → Decided (AllPairs AreNamedApart names)
 names_apart [] = inl (λ i j d less within. absurd (omega arith))
 names_apart (e ∷ names) = go (apart_from_all e names) (names_apart names)
   where

@@ -10,7 +10,7 @@ use Rattle.michelson_code.specs.declared.instr.Instr.{Instr}
 use Rattle.michelson_code.specs.declared.instr.Instr.TheOpen as one
 use Rattle.michelson_code.specs.declared.instr.Instr.TheOpen.{Instr-F}
 use Rattle.michelson_code.specs.declared.instr.Instr.TheViews.{out-Instr, roll-Instr, roll-out-Instr}
-use Rattle.michelson_code.specs.Forms.{AreWrittenAlike, Form, Operand, ANumber, AType, SomeData, ACode, bodies, form_at, form_of}
+use Rattle.michelson_code.specs.Forms.{AreWrittenAlike, Form, Operand, ANumber, AType, SomeData, bodies, form_at, form_of}
 use Rattle.michelson_code.specs.Shown.{HaveSameWord}
 
 abbrev entry_or_none : Option (Option (List ℕ)) → Option (List ℕ)

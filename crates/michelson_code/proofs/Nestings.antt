@@ -1,13 +1,12 @@
 -- How values of each kind are nested in brackets.
-use Rattle.std.proofs.Common.{◌≡◌, ℕ, ℤ, ◌+◌, Bool, List, [], ◌∷◌, map, sym, ap, ◌∙◌}
+use Rattle.std.proofs.Common.{◌≡◌, ℕ, ℤ, Bool, List, [], ◌∷◌, map, sym, ap, ◌∙◌}
 use Rattle.value_core.specs.declared.val.Val.{Val}
-use Rattle.value_core.specs.declared.val.Emit.{Emit}
 use Rattle.value_core.specs.declared.val.Val.TheVariants as value
-use Rattle.value_core.specs.declared.val.Val.TheViews.{out-Val, roll-Val}
+use Rattle.value_core.specs.declared.val.Val.TheViews.{roll-Val}
 use Rattle.value_core.specs.declared.val.Val.TheOpen as one
 use Rattle.value_core.specs.Layer.{Layer, on_parts}
 use Rattle.value_core.proofs.Levels.{by_level-roll}
-use Rattle.michelson_code.specs.Brackets.{Nesting, applied, braced, entry_inside, inside, nesting_level, nesting_of, nestings_of, plain}
+use Rattle.michelson_code.specs.Brackets.{applied, braced, entry_inside, inside, nesting_level, nesting_of, nestings_of, plain}
 
 nesting-roll : (x : Layer Val) → nesting_of (roll-Val x) ≡ nesting_level (on_parts nesting_of x)
 nesting-roll = by_level-roll nesting_level

@@ -9,7 +9,7 @@ use Rattle.michelson_code.specs.declared.instr.Instr.{Instr}
 use Rattle.michelson_code.specs.declared.instr.Instr.TheOpen.{Instr-F}
 use Rattle.michelson_code.specs.declared.instr.Instr.TheFolds.{fold-Instr}
 use Rattle.michelson_code.specs.declared.script.Script.{Script}
-use Rattle.michelson_code.specs.Entries.{Entry}
+use Rattle.michelson_code.specs.Entries.{NamedEntry}
 use Rattle.michelson_code.specs.Forms.{Operand, ANumber, AType, SomeData, ACode, form_at}
 
 -- ---- types: parentheses stand round an argument that has parts, so a type without parts stands in none
@@ -28,6 +28,7 @@ Nesting = ℕ × Bool
 abbrev pub inside : Nesting → ℕ
 inside n = n.0
 
+-- as an argument
 abbrev pub argued : Nesting → ℕ
 argued n = if n.1 then 1 + n.0 else n.0
 
@@ -93,7 +94,7 @@ code_brackets code = 1 + greatest (map brackets_of code)
 -- ---- a script
 
 -- the name of an entry puts parentheses round its node, which stands in as many as the way to it is long
-abbrev pub name_brackets : Entry → ℕ
+abbrev pub name_brackets : NamedEntry → ℕ
 name_brackets e = 1 + length e.0
 
 -- the brackets of a script's text

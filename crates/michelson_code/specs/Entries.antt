@@ -16,9 +16,9 @@ use Rattle.michelson_code.specs.declared.script.Side.TheVariants.{Left, Right}
 abbrev pub Path : Type 0
 Path = List Side
 
--- the way to a node, and the name that stands there
-abbrev pub Entry : Type 0
-Entry = Path × List ℕ
+-- an entry with a name: the way to its node, and the name that stands there
+abbrev pub NamedEntry : Type 0
+NamedEntry = Path × List ℕ
 
 -- one level of a type: its part on a side, where it is an `or`
 abbrev pub part_at : Side → Ty-F Ty → Option Ty
@@ -42,7 +42,7 @@ wrapped [] v = v
 wrapped (side ∷ path) v = as_case side (wrapped path v)
 
 -- the way to the node of a name; `default` is the whole parameter where no node has that name
-abbrev pub path_of : List ℕ → List Entry → Option Path
+abbrev pub path_of : List ℕ → List NamedEntry → Option Path
 path_of name [] = if bytes_eq name (codes "default") then Some [] else None
 path_of name (e ∷ entries) = if bytes_eq name e.1 then Some e.0 else path_of name entries
 
@@ -61,7 +61,7 @@ is_before (Right ∷ p) (Left ∷ q) = false
 is_before (Right ∷ p) (Right ∷ q) = is_before p q
 
 -- in the order of the text, and so at most one at each node
-abbrev pub are_in_order : List Entry → Bool
+abbrev pub are_in_order : List NamedEntry → Bool
 are_in_order [] = true
 are_in_order (e ∷ []) = true
 are_in_order (e ∷ f ∷ more) = is_before e.0 f.0 && are_in_order (f ∷ more)

@@ -104,9 +104,11 @@ pub record MakesOne (s : Script) (aside : ℕ) (i : Instr) (before : List Ty) (F
 abbrev pub types_of : Instr → List Ty
 types_of i = whole_types (out-Instr i)
 
+-- it has more than 128 items, with so many set aside
 abbrev pub IsTooTall : ℕ → List Ty → Type 0
 IsTooTall n stack = 128 < n + length stack
 
+-- a type in it is too large or too deep
 abbrev pub HasTooLarge : ℕ → List Ty → Type 0
 HasTooLarge n stack = list_all is_within_limits stack ≡ false
 
@@ -124,6 +126,7 @@ Breaks s n i before _ = ⊥
 
 -- ---- what is wrong with the script as a whole
 
+-- the kind holds of the script, whatever its instructions are
 abbrev pub WholeBreaks : Script → TypeKind → Type 0
 WholeBreaks s kind.WrongType = (is_kept s.param && (is_kept s.storage && are_entries_of s.param s.names)) ≡ false
 WholeBreaks s kind.NotComparable = (has_comparable_keys s.param && has_comparable_keys s.storage) ≡ false

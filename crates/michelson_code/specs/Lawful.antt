@@ -7,7 +7,7 @@ use Rattle.michelson_code.specs.declared.instr.Instr.{Instr}
 use Rattle.michelson_code.specs.declared.instr.Instr.TheOpen.{Instr-F}
 use Rattle.michelson_code.specs.declared.instr.Instr.TheFolds.{fold-Instr}
 use Rattle.michelson_code.specs.declared.script.Script.{Script}
-use Rattle.michelson_code.specs.Entries.{Entry}
+use Rattle.michelson_code.specs.Entries.{NamedEntry}
 use Rattle.michelson_code.specs.Forms.{Form, Operand, ANumber, SomeData, ACode, form_at}
 
 -- the name of an entry, where there is one, is a name
@@ -35,7 +35,7 @@ abbrev pub is_lawful_instr : Instr → Bool
 is_lawful_instr = fold-Instr Bool lawful_at
 
 -- the name of an entry of a parameter
-abbrev pub is_lawful_entry : Entry → Bool
+abbrev pub is_lawful_entry : NamedEntry → Bool
 is_lawful_entry e = is_name e.1
 
 -- each number, name and value in the script is lawful

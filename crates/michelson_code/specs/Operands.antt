@@ -37,65 +37,87 @@ t = slot.Whole part.T
 abbrev pub u : Slot
 u = slot.Whole part.U
 
--- types without parts
+-- ---- types without parts
+
+-- `unit`
 abbrev pub unit : Slot
 unit = slot.Of level.Unit
 
+-- `bool`
 abbrev pub bool : Slot
 bool = slot.Of level.Bool
 
+-- `int`
 abbrev pub int : Slot
 int = slot.Of level.Int
 
+-- `nat`
 abbrev pub nat : Slot
 nat = slot.Of level.Nat
 
+-- `mutez`
 abbrev pub mutez : Slot
 mutez = slot.Of level.Mutez
 
+-- `timestamp`
 abbrev pub timestamp : Slot
 timestamp = slot.Of level.Time
 
+-- `string`
 abbrev pub string : Slot
 string = slot.Of level.Text
 
+-- `bytes`
 abbrev pub bytes : Slot
 bytes = slot.Of level.Bytes
 
+-- `address`
 abbrev pub address : Slot
 address = slot.Of level.Addr
 
+-- `operation`
 abbrev pub operation : Slot
 operation = slot.Of level.Operation
 
--- types made of parts
+-- ---- types made of parts
+
+-- `option p`
 abbrev pub option : Part → Slot
 option p = slot.Of (level.Option p)
 
+-- `or p q`
 abbrev pub or : Part → Part → Slot
 or p q = slot.Of (level.Or p q)
 
+-- `pair p q`
 abbrev pub pair : Part → Part → Slot
 pair p q = slot.Of (level.Pair p q)
 
+-- `list p`
 abbrev pub list : Part → Slot
 list p = slot.Of (level.List p)
 
+-- `set p`
 abbrev pub set : Part → Slot
 set p = slot.Of (level.Set p)
 
+-- `map p q`
 abbrev pub map : Part → Part → Slot
 map p q = slot.Of (level.Map p q)
 
+-- `big_map p q`
 abbrev pub big_map : Part → Part → Slot
 big_map p q = slot.Of (level.BigMap p q)
 
+-- `contract p`
 abbrev pub contract : Part → Slot
 contract p = slot.Of (level.Contract p)
 
+-- `option (pair p q)`
 abbrev pub option_pair : Part → Part → Slot
 option_pair p q = slot.OptionOf (level.Pair p q)
 
+-- `option (contract p)`
 abbrev pub option_contract : Part → Slot
 option_contract p = slot.OptionOf (level.Contract p)
 

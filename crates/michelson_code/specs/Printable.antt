@@ -11,7 +11,7 @@ use Rattle.michelson_code.specs.declared.instr.Instr.TheOpen.{Instr-F}
 use Rattle.michelson_code.specs.declared.instr.Instr.TheFolds.{fold-Instr}
 use Rattle.michelson_code.specs.declared.script.Script.{Script}
 use Rattle.michelson_code.specs.Brackets.{script_brackets}
-use Rattle.michelson_code.specs.Entries.{Entry, are_in_order, type_at}
+use Rattle.michelson_code.specs.Entries.{NamedEntry, are_in_order, type_at}
 use Rattle.michelson_code.specs.Forms.{Operand, ANumber, AType, SomeData, ACode, form_at}
 
 -- a number that may be read: not below the least, and at most 65,535
@@ -42,11 +42,11 @@ abbrev pub is_fit : Instr → Bool
 is_fit = fold-Instr Bool fit_at
 
 -- a name at a node that `or` alone reaches
-abbrev pub stands_in : Ty → Entry → Bool
+abbrev pub stands_in : Ty → NamedEntry → Bool
 stands_in t e = is_some (type_at e.0 t)
 
 -- names at such nodes, in the order of the text and so at most one at each
-abbrev pub are_entries_of : Ty → List Entry → Bool
+abbrev pub are_entries_of : Ty → List NamedEntry → Bool
 are_entries_of t names = list_all (stands_in t) names && are_in_order names
 
 -- a script whose text is read again as it

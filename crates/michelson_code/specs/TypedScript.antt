@@ -6,14 +6,14 @@ use Rattle.value_core.specs.Kinds.{is_passable}
 use Rattle.michelson_code.specs.declared.instr.Instr.TheVariants as instr
 use Rattle.michelson_code.specs.declared.script.Script.{Script}
 use Rattle.michelson_code.specs.Brackets.{script_brackets}
-use Rattle.michelson_code.specs.Entries.{Entry}
+use Rattle.michelson_code.specs.Entries.{NamedEntry}
 use Rattle.michelson_code.specs.Printable.{are_entries_of}
 use Rattle.michelson_code.specs.Typing.{CodeTyped, EndsWith, Outcome}
 use Rattle.michelson_code.specs.Weight.{code_count}
 use Rattle.michelson_code.specs.WrittenTypes.{has_comparable_keys, has_storage_big_maps, is_kept, is_within_limits}
 
 -- two entries have different names
-abbrev pub AreNamedApart : Entry → Entry → Type 0
+abbrev pub AreNamedApart : NamedEntry → NamedEntry → Type 0
 AreNamedApart e f = e.1 ≢ f.1
 
 -- the stack on which the code begins: one pair of parameter and storage

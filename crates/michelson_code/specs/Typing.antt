@@ -40,6 +40,7 @@ pub record Choice : Type 0 where
   pub k : Ty
   pub written : List Ty
 
+-- the type that a part stands for
 abbrev pub part_type : Choice → Part → Ty
 part_type c part.A = c.a
 part_type c part.B = c.b
@@ -73,6 +74,7 @@ level_type f (level.BigMap p q) = type.BigMap (f p) (f q)
 level_type f (level.Contract p) = type.Contract (f p)
 level_type f level.Operation = type.Operation
 
+-- the type of a slot
 abbrev pub slot_type : Choice → Slot → Ty
 slot_type c (slot.Whole p) = part_type c p
 slot_type c (slot.Of x) = level_type (part_type c) x
@@ -85,6 +87,7 @@ slot_list (slots.One x) = x ∷ []
 slot_list (slots.Two x y) = x ∷ y ∷ []
 slot_list (slots.Three x y z) = x ∷ y ∷ z ∷ []
 
+-- the types of the slots, from the top
 abbrev pub slot_types : Choice → Slots → List Ty
 slot_types c xs = map (slot_type c) (slot_list xs)
 

@@ -49,6 +49,7 @@ keys_here (ty.Map k v) = is_comparable k
 keys_here (ty.BigMap k v) = is_comparable k
 keys_here _ = true
 
+-- throughout the type
 abbrev pub has_comparable_keys : Ty → Bool
 has_comparable_keys = passes_throughout keys_here
 
@@ -57,6 +58,7 @@ abbrev pub values_here : Ty-F Ty → Bool
 values_here (ty.BigMap k v) = is_passable v
 values_here _ = true
 
+-- throughout the type
 abbrev pub has_passable_values : Ty → Bool
 has_passable_values = passes_throughout values_here
 

@@ -8,7 +8,7 @@ ghost use Rattle.michelson_code.specs.Operands.{lines};
 use crate::instr::Instr;
 
 /// One level of a type, with something else in the place of each part.
-#[derive(Clone, Copy)]
+#[derive(Clone, Copy, PartialEq, Eq, Hash)]
 pub enum Level<P> {
     Unit,
     Bool,

@@ -25,11 +25,13 @@ pub fn a_code_has_one_outcome()
         CodeTyped s n c b o → CodeTyped s n c b p → o ≡ p }
 {}
 
-/// Two codes one after another are typed exactly where the second is typed on what the first leaves.
+/// Two codes one after another are typed exactly where the second is typed on what the first
+/// leaves.
 pub fn what_follows_a_code_begins_where_it_ends()
     ensures whole { (s : Script) (n : ℕ) (c d : List Instr) (b t : List Ty) (o : Outcome) →
         CodeTyped s n c b (To t) → CodeTyped s n d t o → CodeTyped s n (c ++ d) b o }
-    ensures parts { (s : Script) (n : ℕ) (c : List Instr) (i : Instr) (d : List Instr) (b : List Ty) (o : Outcome) →
+    ensures parts { (s : Script) (n : ℕ) (c : List Instr) (i : Instr) (d : List Instr) (b : List Ty)
+        (o : Outcome) →
         CodeTyped s n (c ++ i ∷ d) b o →
         (t : List Ty) × (CodeTyped s n c b (To t) × CodeTyped s n (i ∷ d) t o) }
 {}
@@ -46,7 +48,8 @@ pub fn a_typed_script_is_short()
 
 /// A script that is typed has no fault.
 pub fn a_typed_script_has_no_fault()
-    ensures { (s : Script) (path : List ℕ) (k : TypeKind) → IsTypedScript s → ¬ ScriptFault s path k }
+    ensures { (s : Script) (path : List ℕ) (k : TypeKind) →
+        IsTypedScript s → ¬ ScriptFault s path k }
 {}
 
 /// Two faults of a script are one: of one place and one kind.
@@ -61,11 +64,12 @@ pub fn a_typed_instruction_finds_its_operands()
         InstrTyped s n i b o → Finds s n (out-Instr i) b o }
 {}
 
-/// An instruction without bodies finds its operands on a stack, or it doesn't; and one with bodies may
-/// begin there, or it may not.
+/// An instruction without bodies finds its operands on a stack, or it doesn't; and one with bodies
+/// may begin there, or it may not.
 pub fn operands_are_found_or_not()
     ensures lines { (s : Script) (i : Instr) (b : List Ty) →
-        ((t : List Ty) × Applies s (out-Instr i) b t) ⊎ (((t : List Ty) × Applies s (out-Instr i) b t) → ⊥) }
+        ((t : List Ty) × Applies s (out-Instr i) b t)
+        ⊎ (((t : List Ty) × Applies s (out-Instr i) b t) → ⊥) }
     ensures bodies { (i : Instr) (b : List Ty) → MayBegin i b ⊎ ¬ MayBegin i b }
 {}
 

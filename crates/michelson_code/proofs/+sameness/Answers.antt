@@ -1,6 +1,6 @@
 -- Two instructions of one word and one entry's name are equal exactly where their operands are.
-use Rattle.std.proofs.Common.{◌↔◌, ◌≡◌, arith}
-use Rattle.michelson_code.specs.Shown.{operands_shown, shown}
+use Rattle.std.proofs.Common.{arith}
+use Rattle.michelson_code.specs.Shown.{shown}
 use Rattle.michelson_code.proofs.Determined.{same_by_operands}
 use Rattle.michelson_code.specs.Inside.{one_count}
 use Rattle.michelson_code.proofs.+sameness.Goals as goal

@@ -1,6 +1,5 @@
 -- The brackets of an instruction are those of what stands behind its word.
-use Rattle.std.proofs.Common.{◌≡◌, ◌≤◌, ℕ, sym, subst, arith}
-use Rattle.michelson_code.specs.Brackets.{brackets_of}
+use Rattle.std.proofs.Common.{◌≤◌, ℕ, sym, subst, arith}
 use Rattle.michelson_code.specs.Shown.{shown}
 use Rattle.michelson_code.specs.Inside.{one_count}
 use Rattle.michelson_code.proofs.Folded.{one_brackets}
