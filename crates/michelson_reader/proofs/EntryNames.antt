@@ -4,18 +4,18 @@ use Rattle.std.proofs.lemmas.List.{map-append, take_more}
 use Rattle.michelson_code.specs.declared.script.Side.{Side}
 use Rattle.michelson_code.specs.declared.script.Side.TheVariants.{Left, Right}
 use Rattle.michelson_reader.specs.declared.parameter_nodes.EntryBelow.{EntryBelow}
-use Rattle.michelson_code.specs.Entries.{Entry, Path}
+use Rattle.michelson_code.specs.Entries.{NamedEntry, Path}
 use Rattle.michelson_reader.specs.Printed.{names_below, names_here}
 use Rattle.michelson_reader.specs.Printing.{below_of, entry_of, note_of, notes_of}
 
 -- ---- two lists of names
 
-names_here-append : (xs ys : List Entry) → names_here (xs ++ ys) ≡ names_here xs ++ names_here ys
+names_here-append : (xs ys : List NamedEntry) → names_here (xs ++ ys) ≡ names_here xs ++ names_here ys
 names_here-append [] ys = refl
 names_here-append (([], name) ∷ xs) ys = ap (λ ns. name ∷ ns) (names_here-append xs ys)
 names_here-append ((side ∷ path, name) ∷ xs) ys = names_here-append xs ys
 
-names_below-append : (side : Side) (xs ys : List Entry) → names_below side (xs ++ ys) ≡ names_below side xs ++ names_below side ys
+names_below-append : (side : Side) (xs ys : List NamedEntry) → names_below side (xs ++ ys) ≡ names_below side xs ++ names_below side ys
 names_below-append side [] ys = refl
 names_below-append side (([], name) ∷ xs) ys = names_below-append side xs ys
 names_below-append Left ((Left ∷ path, name) ∷ xs) ys = ap (λ es. (path, name) ∷ es) (names_below-append Left xs ys)
@@ -59,7 +59,7 @@ module _ (es : List EntryBelow) (i : ℕ) (e : EntryBelow) (within : i < length 
   notes_with : (names : List (List ℕ)) → names_here (entry_of e ∷ []) ≡ names → notes_of (take (i + 1) es) ≡ notes_of (take i es) ++ map note_of names
   notes_with names here =
       let before = names_here (map entry_of (take i es)) in
-      ap (λ (x : List Entry). map note_of (names_here x)) one_more
+      ap (λ (x : List NamedEntry). map note_of (names_here x)) one_more
       ∙ ap (map note_of) (names_here-append (map entry_of (take i es)) (entry_of e ∷ []))
       ∙ map-append note_of before (names_here (entry_of e ∷ []))
       ∙ ap (λ (ns : List (List ℕ)). notes_of (take i es) ++ map note_of ns) here
@@ -71,11 +71,11 @@ module _ (es : List EntryBelow) (i : ℕ) (e : EntryBelow) (within : i < length 
   notes-below some = notes_with [] (stands_below e.path.now e.name.now some) ∙ append-nil (notes_of (take i es))
 
   module _ (side : Side) where
-    below_with : (names : List Entry) → names_below side (entry_of e ∷ []) ≡ names → below_of side (take (i + 1) es) ≡ below_of side (take i es) ++ names
+    below_with : (names : List NamedEntry) → names_below side (entry_of e ∷ []) ≡ names → below_of side (take (i + 1) es) ≡ below_of side (take i es) ++ names
     below_with names below =
         ap (names_below side) one_more
         ∙ names_below-append side (map entry_of (take i es)) (entry_of e ∷ [])
-        ∙ ap (λ (ns : List Entry). below_of side (take i es) ++ ns) below
+        ∙ ap (λ (ns : List NamedEntry). below_of side (take i es) ++ ns) below
 
     by_path : (path : Path) → e.path.now ≡ path → names_below side (entry_of e ∷ []) ≡ names_below side ((path, e.name.now) ∷ [])
     by_path path is_path = ap (λ (p : Path). names_below side ((p, e.name.now) ∷ [])) is_path

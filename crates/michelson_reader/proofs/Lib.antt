@@ -33,6 +33,7 @@ pub mod ReadTurns
 pub mod Refusals
 pub mod NodeReads
 pub mod WordFaults
+pub mod FormReads
 pub mod Ways
 pub mod OneScript
 pub mod SoundNodes
@@ -55,3 +56,4 @@ pub mod ParameterTold
 pub mod SectionsTold
 pub mod ToldFirst
 mod OneReading
+pub mod KnownWords

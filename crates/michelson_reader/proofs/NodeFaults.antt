@@ -5,7 +5,6 @@ use Rattle.std.specs.Option.{option_map_or}
 use Rattle.std.specs.Str.{bytes_eq}
 use Rattle.value_core.specs.declared.ty.Ty.{Ty}
 use Rattle.value_core.specs.declared.ty.Ty.TheVariants as type
-use Rattle.micheline_text.specs.declared.fault.TextFault.{TextFault}
 use Rattle.micheline_text.specs.declared.node.Node.{Node}
 use Rattle.micheline_text.specs.declared.node.Body.{Body}
 use Rattle.micheline_text.specs.declared.node.Body.TheOpen as body

@@ -1,5 +1,5 @@
 -- Bytes are the text of a script, or have one fault.
-use Rattle.std.proofs.Common.{◌≡◌, ◌⊎◌, inl, inr, ℕ, List, length, Result, Ok, Err, refl, ap, sym, subst, ◌∙◌}
+use Rattle.std.proofs.Common.{◌≡◌, ◌⊎◌, inl, inr, ℕ, List, length, Ok, Err, refl, ap, sym, subst, ◌∙◌}
 use Rattle.std.specs.Prelude.{◌≢◌}
 use Rattle.micheline_text.specs.declared.fault.TextFault.{TextFault}
 use Rattle.micheline_text.specs.declared.node.Node.{Node}

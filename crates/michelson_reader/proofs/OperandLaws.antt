@@ -20,10 +20,10 @@ use Rattle.micheline_text.specs.declared.node.Body.TheViews.{out-Body}
 use Rattle.data_nodes.specs.declared.fault.DataFault.{DataFault}
 use Rattle.data_nodes.specs.Data.{IsData, is_written}
 use Rattle.data_nodes.specs.Faults.{data_read}
-use Rattle.data_nodes.specs.Nodes.{is_number, is_number_body}
+use Rattle.data_nodes.specs.Nodes.{is_numeral, is_numeral_body}
 use Rattle.michelson_reader.specs.declared.fault.ReadFault.TheVariants as fault
-use Rattle.michelson_code.specs.Printable.{is_count}
-use Rattle.michelson_reader.specs.Code.{is_entry, is_read_at}
+use Rattle.michelson_code.specs.Printable.{is_count, is_datum}
+use Rattle.michelson_reader.specs.Code.{is_entry}
 use Rattle.michelson_reader.specs.CodeFaults.{data_fault, entry, left_out_in, number, number_body, pushed, told}
 use Rattle.michelson_reader.specs.Entries.{entry_in, names_in, only_name}
 use Rattle.michelson_reader.proofs.ReadLemmas.{no_form-fails}
@@ -37,7 +37,7 @@ in_range at least m k true is h =
     and_from _ _ (ap (is_count least) (sym same) ∙ is) ((Decides-int_eq (pos m) (pos k)).1 (ap pos same))
 in_range at least m k false is h = cc
 
-is_of_number : (at least place k : ℕ) (b : Body-F Body Node) → number_body at least place b ≡ Ok k → (is_count least k && is_number_body (pos k) b) ≡ true
+is_of_number : (at least place k : ℕ) (b : Body-F Body Node) → number_body at least place b ≡ Ok k → (is_count least k && is_numeral_body (pos k) b) ≡ true
 is_of_number at least place k (one.Int (pos m)) h = in_range at least m k (is_count least m) refl h
 is_of_number at least place k (one.Int (negsuc m)) h = cc
 is_of_number at least place k (one.Prim name notes args) h = absurd (no_form-fails place name k h)
@@ -45,7 +45,7 @@ is_of_number at least place k (one.Seq nodes) h = cc
 is_of_number at least place k (one.Text s) h = cc
 is_of_number at least place k (one.Bytes s) h = cc
 
-of_number : (at least place k : ℕ) (b : Body-F Body Node) → is_count least k ≡ true → is_number_body (pos k) b ≡ true → number_body at least place b ≡ Ok k
+of_number : (at least place k : ℕ) (b : Body-F Body Node) → is_count least k ≡ true → is_numeral_body (pos k) b ≡ true → number_body at least place b ≡ Ok k
 of_number at least place k (one.Int z) count same =
     ap (λ (y : ℤ). number_body at least place (one.Int y)) ((Decides-int_eq z (pos k)).0 same)
     ∙ ap (λ (within : Bool). if within then Ok k else Err (fault.Arity at)) count
@@ -54,7 +54,7 @@ of_number at least place k (one.Seq nodes) count same = cc
 of_number at least place k (one.Text s) count same = cc
 of_number at least place k (one.Bytes s) count same = cc
 
-pub number-read : (at least k : ℕ) (n : Node) → (number at least n ≡ Ok k) ↔ IsTrue (is_count least k && is_number (pos k) n)
+pub number-read : (at least k : ℕ) (n : Node) → (number at least n ≡ Ok k) ↔ IsTrue (is_count least k && is_numeral (pos k) n)
 number-read at least k n = (
   is_of_number at least n.at k (out-Body n.body),
   λ h. let parts = and_parts _ _ h in of_number at least n.at k (out-Body n.body) parts.0 parts.1,
@@ -119,12 +119,11 @@ not_told n (Ok x) v h = cc
 not_told n (Err f) v h = absurd (no_data f (left_out_in n) v h)
 
 module _ (data-read : (n : Node) (t : Ty) (v : Val) → (data_read t n ≡ Ok v) ↔ (IsData t n v × (size_of v ≤ 4096))) where
-  pub pushed-read : (t : Ty) (v : Val) (n : Node) → (pushed t n ≡ Ok v) ↔ IsTrue (is_read_at t v && is_written v n)
+  pub pushed-read : (t : Ty) (v : Val) (n : Node) → (pushed t n ≡ Ok v) ↔ IsTrue (is_datum t v && is_written v n)
   pushed-read t v n = (
     λ h. let is = (data-read n t v).0 (not_told n (data_read t n) v h) in
-        and_from _ _ (and_from _ _ (and_from _ _ is.0.0 (le-leb (size_of v) 4096 is.1)) is.0.2) is.0.1,
+        and_from _ _ (and_from _ _ is.0.0 (le-leb (size_of v) 4096 is.1)) is.0.1,
     λ h. let parts = and_parts _ _ h in
         let value = and_parts _ _ parts.0 in
-        let typed = and_parts _ _ value.0 in
-        ap (told n) ((data-read n t v).1 ((typed.0, parts.1, value.1), leb-true (size_of v) 4096 typed.1)),
+        ap (told n) ((data-read n t v).1 ((value.0, parts.1), leb-true (size_of v) 4096 value.1)),
   )

@@ -11,7 +11,7 @@ use Rattle.micheline_text.specs.declared.node.Body.{Body}
 use Rattle.micheline_text.specs.declared.node.Body.TheOpen as body
 use Rattle.micheline_text.specs.declared.node.Body.TheOpen.{Body-F}
 use Rattle.micheline_text.specs.declared.node.Body.TheViews.{out-Body}
-use Rattle.michelson_code.specs.Entries.{Entry}
+use Rattle.michelson_code.specs.Entries.{NamedEntry}
 use Rattle.michelson_reader.specs.Entries.{both, entries_below, entries_level, entries_of, entry_in, in_order, own}
 use Rattle.michelson_reader.specs.Script.{IsParameter}
 use Rattle.michelson_reader.specs.ScriptFaults.{Parameter, below, either, other, parameter_at, parameter_read}
@@ -24,11 +24,11 @@ use Rattle.michelson_reader.proofs.TypeLaws.{type-read}
 use Rattle.michelson_reader.proofs.TypeNodes.{read_shown}
 
 abbrev Law : Node → Type 0
-Law n = (t : Ty) (names : List Entry) → (parameter_read n ≡ Ok (t, names)) ↔ IsParameter t names n
+Law n = (t : Ty) (names : List NamedEntry) → (parameter_read n ≡ Ok (t, names)) ↔ IsParameter t names n
 
 -- what is read and the names that stand there agree
-abbrev Agree : Node → Read Parameter → Option (List Entry) → Type 0
-Agree n r found = (t : Ty) (names : List Entry) → (r ≡ Ok (t, names)) ↔ ((is_type t n ≡ true) × (found ≡ Some names))
+abbrev Agree : Node → Read Parameter → Option (List NamedEntry) → Type 0
+Agree n r found = (t : Ty) (names : List NamedEntry) → (r ≡ Ok (t, names)) ↔ ((is_type t n ≡ true) × (found ≡ Some names))
 
 -- ---- any type but an `or`
 
@@ -44,12 +44,12 @@ other_agrees n name t names = (read, written)
     written : (is_type t n ≡ true) × (Some (own name) ≡ Some names) → other n name ≡ Ok (t, names)
     written h =
         let same : own name ≡ names = same_found (own name) names (Some (own name)) refl h.1 in
-        read_both (λ t. Ok (t, own name)) (type_read n) t (t, names) ((type-read n t).1 h.0) (ap (λ (l : List Entry). Ok (t, l)) same)
+        read_both (λ t. Ok (t, own name)) (type_read n) t (t, names) ((type-read n t).1 h.0) (ap (λ (l : List NamedEntry). Ok (t, l)) same)
 
 -- ---- an `or`
 
-both_found : (name : Option (List ℕ)) (left right : Option (List Entry)) (names : List Entry) → both name left right ≡ Some names →
-    (ls : List Entry) × (rs : List Entry) × (left ≡ Some ls) × (right ≡ Some rs) × (in_order name ls rs ≡ names)
+both_found : (name : Option (List ℕ)) (left right : Option (List NamedEntry)) (names : List NamedEntry) → both name left right ≡ Some names →
+    (ls : List NamedEntry) × (rs : List NamedEntry) × (left ≡ Some ls) × (right ≡ Some rs) × (in_order name ls rs ≡ names)
 both_found name None right names e = absurd cc
 both_found name (Some ls) None names e = absurd cc
 both_found name (Some ls) (Some rs) names e = (ls, rs, refl, refl, same_found (in_order name ls rs) names (Some (in_order name ls rs)) refl e)
@@ -135,5 +135,5 @@ law = induction Law (λ n laws t names.
     ))
 
 -- what is read of a node as the parameter is the type and the names of entries that it is written for
-pub parameter-read : (n : Node) (t : Ty) (names : List Entry) → (parameter_read n ≡ Ok (t, names)) ↔ IsParameter t names n
+pub parameter-read : (n : Node) (t : Ty) (names : List NamedEntry) → (parameter_read n ≡ Ok (t, names)) ↔ IsParameter t names n
 parameter-read n t names = law n t names

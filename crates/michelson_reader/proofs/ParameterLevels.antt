@@ -6,7 +6,7 @@ use Rattle.micheline_text.specs.declared.node.Body.TheOpen as body
 use Rattle.micheline_text.specs.declared.node.Body.TheOpen.{Body-F, Node-F}
 use Rattle.micheline_text.specs.declared.node.Body.TheViews.{out-Body, roll-Body}
 use Rattle.micheline_text.specs.declared.node.Body.TheFolds.{fold-Body, fold-Node, fold_out-Body, fold-roll-Node, map-Body}
-use Rattle.michelson_code.specs.Entries.{Entry}
+use Rattle.michelson_code.specs.Entries.{NamedEntry}
 use Rattle.michelson_reader.specs.Entries.{entries_level, entries_of}
 use Rattle.michelson_reader.specs.ScriptFaults.{ParameterReader, body_of, parameter_at, parameter_read, reader_at}
 use Rattle.michelson_reader.proofs.NodeInduction.{Each, induction, parts_of, roll-out}
@@ -64,7 +64,7 @@ parameter-level n =
     ∙ ap (λ (b : Body). parameter_at (with_body n b) (readers (out-Body n.body))) (body_stays (out-Body n.body) (all_stay (parts_of (out-Body n.body))) ∙ roll-out n.body)
 
 abbrev Found : Type 0
-Found = Option (List Entry)
+Found = Option (List NamedEntry)
 
 abbrev body_entries : Body → Found
 body_entries = fold-Body Found Found entries_level (λ n. n.body)

@@ -9,7 +9,7 @@ use Rattle.value_core.specs.declared.ty.Ty.TheFolds.{fold-Ty, fold_out-Ty, fold-
 use Rattle.micheline_text.specs.declared.node.Node.{Node}
 use Rattle.micheline_text.specs.declared.node.Body.TheVariants as body
 use Rattle.data_nodes.specs.Nodes.{node}
-use Rattle.michelson_code.specs.Entries.{Entry}
+use Rattle.michelson_code.specs.Entries.{NamedEntry}
 use Rattle.michelson_reader.specs.Printed.{PartNode, names_here, noted, part_nodes, type_node}
 use Rattle.michelson_reader.specs.Printing.{annotated, note_of, part_level, part_node, type_parts}
 use Rattle.michelson_reader.specs.Types.{word_and_parts}
@@ -59,7 +59,7 @@ word_of-map f ty.Unit = refl
 word_of-map f _ = refl
 
 -- a part that is no `or` is its type's node with annotations
-other_parts : (x : Ty-F Ty) (names : List Entry) → ((s u : Ty) → x ≡ ty.Or s u → ⊥) → part_nodes (map-Ty Ty PartNode whole x) names ≡ word_and_parts (plain_nodes x)
+other_parts : (x : Ty-F Ty) (names : List NamedEntry) → ((s u : Ty) → x ≡ ty.Or s u → ⊥) → part_nodes (map-Ty Ty PartNode whole x) names ≡ word_and_parts (plain_nodes x)
 other_parts (ty.Or s u) names other = absurd (other s u refl)
 other_parts _ names other = refl
 
@@ -68,7 +68,7 @@ no_or t other s u is =
     let same : roll-Ty (out-Ty t) ≡ t = search (rules, the_lemmas) in
     other s u (sym same ∙ ap roll-Ty is ∙ variant.rolls-Or s u)
 
-pub part_other : (t : Ty) (names : List Entry) → ((s u : Ty) → t ≡ variant.Or s u → ⊥) → part_node t names ≡ annotated (map note_of (names_here names)) t
+pub part_other : (t : Ty) (names : List NamedEntry) → ((s u : Ty) → t ≡ variant.Or s u → ⊥) → part_node t names ≡ annotated (map note_of (names_here names)) t
 part_other t names other =
     let x = out-Ty t in
     ap (λ (p : PartNode). p.1 names) (fold_out-Ty PartNode part_level t)

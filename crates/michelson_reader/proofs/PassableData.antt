@@ -1,4 +1,4 @@
--- Values of passable types are data: no big map, no contract and no operation stands in them. Addresses in lawful values are some.
+-- Values of passable types are data: no big map, no contract and no operation stands in them.
 use Rattle.std.proofs.Common.{◌≡◌, Bool, true, List, [], ◌∷◌, map, refl, sym, ◌∙◌}
 use Rattle.std.specs.Prelude.{◌&&◌}
 use Rattle.std.specs.List.{list_all}
@@ -15,10 +15,7 @@ use Rattle.value_core.specs.Layer.{Layer, flat, on_parts, parts_of}
 use Rattle.value_core.specs.Kinds.{is_passable, passable_level}
 use Rattle.value_core.specs.Typed.{fits, fits_level, has_type}
 use Rattle.value_core.proofs.Levels.{Each, induction}
-use Rattle.value_core.specs.Lawful.{is_lawful, is_lawful_level}
 use Rattle.value_core.proofs.Everywhere.{everywhere-is}
-use Rattle.value_core.proofs.PlainTyped.{everywhere-joins}
-use Rattle.data_nodes.specs.Addressed.{has_addresses, is_addressed_level}
 use Rattle.data_nodes.proofs.DataLevels.{is_data, is_data_level}
 use Rattle.data_nodes.proofs.DataLaws.{fits-is}
 
@@ -75,16 +72,6 @@ level_is x y h f p = cc
 fitting_is_data : (v : Val) → IsDataAt v
 fitting_is_data = induction IsDataAt (λ v h t f p.
     everywhere-is is_data_level v ∙ level_is (out-Val v) (out-Ty t) h (sym (fits-is v t) ∙ f) (sym (fold_out-Ty Bool passable_level t) ∙ p))
-
--- ---- addresses
-
-addressed_level : (x : Layer Val) → is_lawful_level x ≡ true → is_lawful_level x ≡ true → is_addressed_level x ≡ true
-addressed_level (one.Addr address) lawful again = (and_parts _ _ lawful).0
-addressed_level _ lawful again = refl
-
--- each address in a lawful value is one
-pub lawful_addresses : (v : Val) → is_lawful v ≡ true → has_addresses v ≡ true
-lawful_addresses v lawful = everywhere-joins is_lawful_level is_lawful_level is_addressed_level addressed_level v lawful lawful
 
 -- a value of a passable type is data
 pub passable_is_data : (v : Val) (t : Ty) → has_type v t ≡ true → is_passable t ≡ true → is_data v ≡ true

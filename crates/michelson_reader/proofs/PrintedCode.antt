@@ -17,7 +17,7 @@ use Rattle.data_nodes.specs.Printed.{node_of}
 use Rattle.data_nodes.proofs.WrittenNodes.{data_is_written, number_written, sequence_written}
 use Rattle.data_nodes.proofs.NodeLevels.{shows_prim}
 use Rattle.michelson_code.specs.Forms.{Form, Operand, ANumber, AType, SomeData, ACode, bodies, form_of}
-use Rattle.michelson_reader.specs.Code.{is_code, is_entry, is_form_body, is_instruction, is_operand, is_read_at}
+use Rattle.michelson_reader.specs.Code.{is_code, is_entry, is_form_body, is_instruction, is_operand}
 use Rattle.michelson_reader.specs.Printed.{code_node, entry_names, instruction_node, operand_node}
 use Rattle.michelson_code.specs.Lawful.{is_lawful_form, is_lawful_instr, is_lawful_name, is_lawful_operand}
 use Rattle.michelson_code.specs.Printable.{fit_at, is_datum, is_fit, is_fit_operand, is_pushed}
@@ -25,7 +25,7 @@ use Rattle.michelson_code.proofs.Folded.{one_lawful}
 use Rattle.michelson_code.specs.Levels.{EachIn, fold_form, form_map, induction, operand_map}
 use Rattle.michelson_reader.proofs.CodeNodes.{form_node, node-level}
 use Rattle.michelson_reader.proofs.FormLevels.{is_instruction-level}
-use Rattle.michelson_reader.proofs.PassableData.{lawful_addresses, passable_is_data}
+use Rattle.michelson_reader.proofs.PassableData.{passable_is_data}
 use Rattle.michelson_reader.proofs.PrintedTypes.{type_is_written}
 
 abbrev Written : Instr → Type 0
@@ -41,11 +41,11 @@ body_written (i ∷ c) h lawful fit =
     let both = and_parts _ _ fit in
     and_from _ _ (h.0 law.0 both.0) (body_written c h.1 law.1 both.1)
 
-pushed_written : (t : Ty) (v : Val) → is_lawful v ≡ true → is_pushed t v ≡ true → (is_read_at t v && is_written v (node_of v)) ≡ true
+pushed_written : (t : Ty) (v : Val) → is_lawful v ≡ true → is_pushed t v ≡ true → (is_datum t v && is_written v (node_of v)) ≡ true
 pushed_written t v lawful fit =
     let both = and_parts (is_passable t) (is_datum t v) fit in
     let typed = (and_parts _ _ both.1).0 in
-    and_from _ _ (and_from _ _ both.1 (lawful_addresses v lawful)) (data_is_written v (passable_is_data v t typed both.0))
+    and_from _ _ both.1 (data_is_written v (passable_is_data v t typed both.0) lawful)
 
 operands_written : (os : List (Operand Instr)) → EachIn Written (bodies os) → list_all is_lawful_operand (map (operand_map is_lawful_instr) os) ≡ true → list_all is_fit_operand (map (operand_map is_fit) os) ≡ true →
     all_are (map is_operand (map (operand_map is_instruction) os)) (map operand_node (map (operand_map instruction_node) os)) ≡ true

@@ -16,7 +16,7 @@ use Rattle.micheline_text.specs.declared.node.Body.TheOpen.{Body-F}
 use Rattle.michelson_code.specs.declared.script.Side.{Side}
 use Rattle.michelson_code.specs.declared.script.Side.TheVariants.{Left, Right}
 use Rattle.data_nodes.proofs.NodeLevels.{shows_prim}
-use Rattle.michelson_code.specs.Entries.{Entry, Path, are_in_order, part_at, type_at}
+use Rattle.michelson_code.specs.Entries.{NamedEntry, Path, are_in_order, part_at, type_at}
 use Rattle.michelson_code.specs.Lawful.{is_lawful_entry}
 use Rattle.michelson_code.specs.Printable.{are_entries_of, stands_in}
 use Rattle.michelson_reader.specs.Entries.{entries_below, entries_level, entries_of, entry_in, from, in_order, names_in, only_name, own}
@@ -57,20 +57,20 @@ reached-is (side ∷ path) t =
 
 -- ---- names in order are the one here, those below left and those below right
 
-record Shape (names : List Entry) : Type 0 where
+record Shape (names : List NamedEntry) : Type 0 where
   pub here : Option (List ℕ)
-  pub left : List Entry
-  pub right : List Entry
+  pub left : List NamedEntry
+  pub right : List NamedEntry
   pub is : names ≡ in_order here left right
   pub left_order : are_in_order left ≡ true
   pub right_order : are_in_order right ≡ true
 
-tail_order : (e : Entry) (names : List Entry) → are_in_order (e ∷ names) ≡ true → are_in_order names ≡ true
+tail_order : (e : NamedEntry) (names : List NamedEntry) → are_in_order (e ∷ names) ≡ true → are_in_order names ≡ true
 tail_order e [] h = refl
 tail_order e (f ∷ names) h = (and_parts _ _ h).1
 
 -- one more name before the others
-one_more : (p : Path) (name : List ℕ) (here : Option (List ℕ)) (left right : List Entry) → are_in_order ((p, name) ∷ in_order here left right) ≡ true →
+one_more : (p : Path) (name : List ℕ) (here : Option (List ℕ)) (left right : List NamedEntry) → are_in_order ((p, name) ∷ in_order here left right) ≡ true →
     are_in_order left ≡ true → are_in_order right ≡ true → Shape ((p, name) ∷ in_order here left right)
 one_more [] name None left right h l r = record { here = Some name; left = left; right = right; is = refl; left_order = l; right_order = r }
 one_more [] name (Some other) left right h l r = absurd cc
@@ -81,12 +81,12 @@ one_more (Right ∷ p) name None (e ∷ left) right h l r = absurd cc
 one_more (Right ∷ p) name None [] [] h l r = record { here = None; left = []; right = (p, name) ∷ []; is = refl; left_order = refl; right_order = refl }
 one_more (Right ∷ p) name None [] (e ∷ right) h l r = record { here = None; left = []; right = (p, name) ∷ e ∷ right; is = refl; left_order = refl; right_order = and_from _ _ (and_parts _ _ h).0 r }
 
-shape : (names : List Entry) → are_in_order names ≡ true → Shape names
+shape : (names : List NamedEntry) → are_in_order names ≡ true → Shape names
 shape [] h = record { here = None; left = []; right = []; is = refl; left_order = refl; right_order = refl }
 shape (e ∷ names) h =
     let s = shape names (tail_order e names h) in
-    subst (λ (x : List Entry). Shape (e ∷ x)) (sym s.is)
-    (one_more e.0 e.1 s.here s.left s.right (subst (λ (x : List Entry). are_in_order (e ∷ x) ≡ true) s.is h) s.left_order s.right_order)
+    subst (λ (x : List NamedEntry). Shape (e ∷ x)) (sym s.is)
+    (one_more e.0 e.1 s.here s.left s.right (subst (λ (x : List NamedEntry). are_in_order (e ∷ x) ≡ true) s.is h) s.left_order s.right_order)
 
 -- ---- the parts of such names
 
@@ -94,50 +94,50 @@ abbrev here_of : Option (List ℕ) → List (List ℕ)
 here_of None = []
 here_of (Some name) = name ∷ []
 
-here_right : (right : List Entry) → names_here (from Right right) ≡ []
+here_right : (right : List NamedEntry) → names_here (from Right right) ≡ []
 here_right [] = refl
 here_right (e ∷ right) = here_right right
 
-here_left : (left right : List Entry) → names_here (from Left left ++ from Right right) ≡ []
+here_left : (left right : List NamedEntry) → names_here (from Left left ++ from Right right) ≡ []
 here_left [] right = here_right right
 here_left (e ∷ left) right = here_left left right
 
-here_is : (here : Option (List ℕ)) (left right : List Entry) → names_here (in_order here left right) ≡ here_of here
+here_is : (here : Option (List ℕ)) (left right : List NamedEntry) → names_here (in_order here left right) ≡ here_of here
 here_is None left right = here_left left right
 here_is (Some name) left right = ap (λ (x : List (List ℕ)). name ∷ x) (here_left left right)
 
-left_right : (right : List Entry) → names_below Left (from Right right) ≡ []
+left_right : (right : List NamedEntry) → names_below Left (from Right right) ≡ []
 left_right [] = refl
 left_right (e ∷ right) = left_right right
 
-left_left : (left right : List Entry) → names_below Left (from Left left ++ from Right right) ≡ left
+left_left : (left right : List NamedEntry) → names_below Left (from Left left ++ from Right right) ≡ left
 left_left [] right = left_right right
-left_left (e ∷ left) right = ap (λ (x : List Entry). e ∷ x) (left_left left right)
+left_left (e ∷ left) right = ap (λ (x : List NamedEntry). e ∷ x) (left_left left right)
 
-left_is : (here : Option (List ℕ)) (left right : List Entry) → names_below Left (in_order here left right) ≡ left
+left_is : (here : Option (List ℕ)) (left right : List NamedEntry) → names_below Left (in_order here left right) ≡ left
 left_is None left right = left_left left right
 left_is (Some name) left right = left_left left right
 
-right_right : (right : List Entry) → names_below Right (from Right right) ≡ right
+right_right : (right : List NamedEntry) → names_below Right (from Right right) ≡ right
 right_right [] = refl
-right_right (e ∷ right) = ap (λ (x : List Entry). e ∷ x) (right_right right)
+right_right (e ∷ right) = ap (λ (x : List NamedEntry). e ∷ x) (right_right right)
 
-right_left : (left right : List Entry) → names_below Right (from Left left ++ from Right right) ≡ right
+right_left : (left right : List NamedEntry) → names_below Right (from Left left ++ from Right right) ≡ right
 right_left [] right = right_right right
 right_left (e ∷ left) right = right_left left right
 
-right_is : (here : Option (List ℕ)) (left right : List Entry) → names_below Right (in_order here left right) ≡ right
+right_is : (here : Option (List ℕ)) (left right : List NamedEntry) → names_below Right (in_order here left right) ≡ right
 right_is None left right = right_left left right
 right_is (Some name) left right = right_left left right
 
 -- ---- conditions on each name
 
-module _ (P : Entry → Type 0) where
-  all_right : (right : List Entry) → AllByRecursion P (from Right right) → AllByRecursion (λ e. P (Right ∷ e.0, e.1)) right
+module _ (P : NamedEntry → Type 0) where
+  all_right : (right : List NamedEntry) → AllByRecursion P (from Right right) → AllByRecursion (λ e. P (Right ∷ e.0, e.1)) right
   all_right [] h = tt
   all_right (e ∷ right) h = (h.0, all_right right h.1)
 
-  all_left : (left right : List Entry) → AllByRecursion P (from Left left ++ from Right right) →
+  all_left : (left right : List NamedEntry) → AllByRecursion P (from Left left ++ from Right right) →
       AllByRecursion (λ e. P (Left ∷ e.0, e.1)) left × AllByRecursion (λ e. P (Right ∷ e.0, e.1)) right
   all_left [] right h = (tt, all_right right h)
   all_left (e ∷ left) right h = let more = all_left left right h.1 in ((h.0, more.0), more.1)
@@ -146,7 +146,7 @@ module _ (P : Entry → Type 0) where
   AtHere None = Unit {0}
   AtHere (Some name) = P ([], name)
 
-  all_parts : (here : Option (List ℕ)) (left right : List Entry) → AllByRecursion P (in_order here left right) →
+  all_parts : (here : Option (List ℕ)) (left right : List NamedEntry) → AllByRecursion P (in_order here left right) →
       AtHere here × (AllByRecursion (λ e. P (Left ∷ e.0, e.1)) left × AllByRecursion (λ e. P (Right ∷ e.0, e.1)) right)
   all_parts None left right h = (tt, all_left left right h)
   all_parts (Some name) left right h = (h.0, all_left left right h.1)
@@ -157,14 +157,14 @@ names_in_notes : (names : List (List ℕ)) → names_in (map (λ name. 37 ∷ na
 names_in_notes [] = refl
 names_in_notes (name ∷ names) = ap (λ (x : List (List ℕ)). name ∷ x) (names_in_notes names)
 
-abbrev IsGood : Ty-F (Path → Bool) → Entry → Type 0
+abbrev IsGood : Ty-F (Path → Bool) → NamedEntry → Type 0
 IsGood x e = IsTrue (is_name e.1) × IsTrue (reached_level x e.0)
 
 only_here : (x : Ty-F (Path → Bool)) (here : Option (List ℕ)) → AtHere (IsGood x) here → only_name (here_of here) ≡ Some here
 only_here x None h = refl
 only_here x (Some name) h = let fit = h.0 in rw fit refl
 
-entry_here : (x : Ty-F (Path → Bool)) (here : Option (List ℕ)) (left right : List Entry) → AtHere (IsGood x) here →
+entry_here : (x : Ty-F (Path → Bool)) (here : Option (List ℕ)) (left right : List NamedEntry) → AtHere (IsGood x) here →
     entry_in (map (λ name. 37 ∷ name) (names_here (in_order here left right))) ≡ Some here
 entry_here x here left right h = ap only_name (names_in_notes (names_here (in_order here left right)) ∙ here_is here left right) ∙ only_here x here h
 
@@ -175,7 +175,7 @@ entries_noted names name args =
     entries-level (noted names (name, args)) ∙ ap (λ (x : Body-F Body Node). entries_level (parts_entries x)) (shows_prim name (map (λ note. 37 ∷ note) names) args)
 
 -- no name stands below a node that isn't reached
-none_below : (x : Ty-F (Path → Bool)) (side : Side) (es : List Entry) → ((p : Path) → reached_level x (side ∷ p) ≡ false) → AllByRecursion (λ e. IsGood x (side ∷ e.0, e.1)) es → es ≡ []
+none_below : (x : Ty-F (Path → Bool)) (side : Side) (es : List NamedEntry) → ((p : Path) → reached_level x (side ∷ p) ≡ false) → AllByRecursion (λ e. IsGood x (side ∷ e.0, e.1)) es → es ≡ []
 none_below x side [] unreached h = refl
 none_below x side (e ∷ es) unreached h = absurd (let no = unreached e.0 in let yes = h.0.1 in cc)
 
@@ -187,7 +187,7 @@ own_alone (Some name) = refl
 module _ (name : List ℕ) (args : List Node) (x : Ty-F (Path → Bool)) where
   leaf_found : ((p : Path) → reached_level x (Left ∷ p) ≡ false) → ((p : Path) → reached_level x (Right ∷ p) ≡ false) →
       ((e : Option (List ℕ)) → entries_below name (map entries_of args) e ≡ Some (own e)) →
-      (here : Option (List ℕ)) (left right : List Entry) → AllByRecursion (IsGood x) (in_order here left right) →
+      (here : Option (List ℕ)) (left right : List NamedEntry) → AllByRecursion (IsGood x) (in_order here left right) →
       entries_of (noted (names_here (in_order here left right)) (name, args)) ≡ Some (in_order here left right)
   leaf_found no_left no_right below here left right good =
       let parts = all_parts (IsGood x) here left right good in
@@ -201,21 +201,21 @@ abbrev reaching : Ty-F Ty → Ty-F (Path → Bool)
 reaching = map-Ty Ty (Path → Bool) is_reached
 
 abbrev FoundAgain : Ty → Type 0
-FoundAgain t = (names : List Entry) → AllByRecursion (λ e. IsTrue (is_name e.1) × IsTrue (is_reached t e.0)) names → are_in_order names ≡ true →
+FoundAgain t = (names : List NamedEntry) → AllByRecursion (λ e. IsTrue (is_name e.1) × IsTrue (is_reached t e.0)) names → are_in_order names ≡ true →
     entries_of (parameter_node t names) ≡ Some names
 
 abbrev LevelFound : Ty-F Ty → Type 0
-LevelFound x = (here : Option (List ℕ)) (left right : List Entry) → AllByRecursion (IsGood (reaching x)) (in_order here left right) → are_in_order left ≡ true → are_in_order right ≡ true →
+LevelFound x = (here : Option (List ℕ)) (left right : List NamedEntry) → AllByRecursion (IsGood (reaching x)) (in_order here left right) → are_in_order left ≡ true → are_in_order right ≡ true →
     entries_of (noted (names_here (in_order here left right)) (part_nodes (map-Ty Ty PartNode part_of x) (in_order here left right))) ≡ Some (in_order here left right)
 
 or_found : (s t : Ty) → FoundAgain s → FoundAgain t → LevelFound (ty.Or s t)
 or_found s t first second here left right good left_order right_order =
-    let names : List Entry = in_order here left right in
+    let names : List NamedEntry = in_order here left right in
     let parts = all_parts (IsGood (reaching (ty.Or s t))) here left right good in
     let on_left : entries_of (parameter_node s (names_below Left names)) ≡ Some left =
-    ap (λ (es : List Entry). entries_of (parameter_node s es)) (left_is here left right) ∙ first left parts.1.0 left_order in
+    ap (λ (es : List NamedEntry). entries_of (parameter_node s es)) (left_is here left right) ∙ first left parts.1.0 left_order in
     let on_right : entries_of (parameter_node t (names_below Right names)) ≡ Some right =
-    ap (λ (es : List Entry). entries_of (parameter_node t es)) (right_is here left right) ∙ second right parts.1.1 right_order in
+    ap (λ (es : List NamedEntry). entries_of (parameter_node t es)) (right_is here left right) ∙ second right parts.1.1 right_order in
     entries_noted (names_here names) (codes "or") (parameter_node s (names_below Left names) ∷ parameter_node t (names_below Right names) ∷ [])
     ∙ (λ i. option_and_then (entries_below (codes "or") (on_left i ∷ on_right i ∷ [])) (entry_here (reaching (ty.Or s t)) here left right parts.0 i))
 
@@ -232,13 +232,13 @@ found_step t h names good order =
     let reached : is_reached t ≡ reached_level (reaching x) = fold_out-Ty (Path → Bool) reached_level t in
     let fit : AllByRecursion (IsGood (reaching x)) names = subst (λ (test : Path → Bool). AllByRecursion (λ e. IsTrue (is_name e.1) × IsTrue (test e.0)) names) reached good in
     ap (λ (p : PartNode). entries_of (p.1 names)) (part_of-level t)
-    ∙ subst (λ (es : List Entry). entries_of (noted (names_here es) (part_nodes (map-Ty Ty PartNode part_of x) es)) ≡ Some es) (sym s.is)
+    ∙ subst (λ (es : List NamedEntry). entries_of (noted (names_here es) (part_nodes (map-Ty Ty PartNode part_of x) es)) ≡ Some es) (sym s.is)
     (level_found x h s.here s.left s.right (subst (AllByRecursion (IsGood (reaching x))) s.is fit) s.left_order s.right_order)
 
 reached_names : (t : Ty) → FoundAgain t
 reached_names = induction FoundAgain found_step
 
-each_good : (t : Ty) (names : List Entry) → list_all is_lawful_entry names ≡ true → list_all (stands_in t) names ≡ true → AllByRecursion (λ e. IsTrue (is_name e.1) × IsTrue (is_reached t e.0)) names
+each_good : (t : Ty) (names : List NamedEntry) → list_all is_lawful_entry names ≡ true → list_all (stands_in t) names ≡ true → AllByRecursion (λ e. IsTrue (is_name e.1) × IsTrue (is_reached t e.0)) names
 each_good t [] lawful stands = tt
 each_good t (e ∷ names) lawful stands =
     let name = and_parts _ _ lawful in
@@ -246,7 +246,7 @@ each_good t (e ∷ names) lawful stands =
     ((name.0, reached-is e.0 t ∙ place.0), each_good t names name.1 place.1)
 
 -- names that stand at nodes of the parameter, in order, are those of the node that is printed for it
-pub names_are_found : (t : Ty) (names : List Entry) → list_all is_lawful_entry names ≡ true → are_entries_of t names ≡ true → entries_of (parameter_node t names) ≡ Some names
+pub names_are_found : (t : Ty) (names : List NamedEntry) → list_all is_lawful_entry names ≡ true → are_entries_of t names ≡ true → entries_of (parameter_node t names) ≡ Some names
 names_are_found t names lawful entries =
     let both = and_parts _ _ entries in
     reached_names t names (each_good t names lawful both.0) both.1

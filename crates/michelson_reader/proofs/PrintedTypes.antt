@@ -12,7 +12,7 @@ use Rattle.micheline_text.specs.declared.node.Node.{Node}
 use Rattle.michelson_code.specs.declared.script.Side.TheVariants.{Left, Right}
 use Rattle.data_nodes.specs.Nodes.{Test, all_are, is_applied, is_applied_body}
 use Rattle.data_nodes.proofs.NodeLevels.{shows_prim}
-use Rattle.michelson_code.specs.Entries.{Entry}
+use Rattle.michelson_code.specs.Entries.{NamedEntry}
 use Rattle.michelson_reader.specs.Types.{is_pair, is_pair_body, is_type, type_level, word_and_parts}
 use Rattle.michelson_reader.specs.Printed.{PartNode, names_below, names_here, noted, parameter_node, part_nodes, type_node}
 use Rattle.michelson_reader.proofs.TypeLevels.{Each, induction, is_type-level, parts_of}
@@ -60,7 +60,7 @@ plain t = (part_of t).0
 
 record IsWrittenPart (t : Ty) : Type 0 where
   pub alone : is_type t (plain t) ≡ true
-  pub named : (names : List Entry) → is_type t (parameter_node t names) ≡ true
+  pub named : (names : List NamedEntry) → is_type t (parameter_node t names) ≡ true
 
 plain_parts : (x : Ty-F Ty) → map-Ty PartNode Node (λ p. p.0) (map-Ty Ty PartNode part_of x) ≡ map-Ty Ty Node plain x
 plain_parts ty.Unit = refl
@@ -75,7 +75,7 @@ level_alone : (x : Ty-F Ty) → Each IsWrittenPart (parts_of x) → (names : Lis
 level_alone x h names =
     ap (λ (y : Ty-F Node). type_level (map-Ty Ty Test is_type x) (noted names (word_and_parts y))) (plain_parts x) ∙ level_fits plain x (each_alone (parts_of x) h) names
 
-level_named : (x : Ty-F Ty) → Each IsWrittenPart (parts_of x) → (names : List Entry) →
+level_named : (x : Ty-F Ty) → Each IsWrittenPart (parts_of x) → (names : List NamedEntry) →
     type_level (map-Ty Ty Test is_type x) (noted (names_here names) (part_nodes (map-Ty Ty PartNode part_of x) names)) ≡ true
 level_named (ty.Or s t) h names =
     applied_noted (codes "or") (is_type s ∷ is_type t ∷ []) (names_here names) (parameter_node s (names_below Left names) ∷ parameter_node t (names_below Right names) ∷ [])
@@ -89,5 +89,5 @@ part_is_written = induction IsWrittenPart (λ t h. record {
 })
 
 -- the node of a parameter is written for its type, whatever the names
-pub parameter_is_written : (t : Ty) (names : List Entry) → is_type t (parameter_node t names) ≡ true
+pub parameter_is_written : (t : Ty) (names : List NamedEntry) → is_type t (parameter_node t names) ≡ true
 parameter_is_written t names = (part_is_written t).named names

@@ -1,26 +1,28 @@
 -- One turn of each loop over nodes and annotations.
-use Rattle.std.proofs.Common.{◌≡◌, inl, inr, ℕ, ◌+◌, ◌<◌, true, false, List, [], ◌∷◌, ◌++◌, length, map, drop, get_or, Option, Some, None, Ok, Err, refl, sym, ap, ◌∙◌, append_assoc}
+use Rattle.std.proofs.Common.{◌≡◌, ℕ, ◌+◌, ◌<◌, true, false, List, [], ◌∷◌, ◌++◌, length, map, drop, get_or, Option, Some, None, Ok, Err, refl, sym, ap, subst, ◌∙◌, append_assoc}
 use Rattle.std.specs.Prelude.{if◌then◌else◌, Bool, IfSome, is_some}
 use Rattle.std.proofs.lemmas.List.{drop_more}
 use Rattle.value_core.specs.Leaves.{is_name}
 use Rattle.micheline_text.specs.declared.node.Node.{Node}
 use Rattle.micheline_text.specs.declared.node.Body.TheViews.{out-Body}
 use Rattle.michelson_reader.specs.declared.fault.ReadFault.{ReadFault}
+use Rattle.michelson_reader.specs.declared.fault.ReadFault.TheVariants as fault
+use Rattle.micheline_text.specs.Told.{IsTold}
+use Rattle.michelson_reader.specs.Answers.{read_fault}
 use Rattle.michelson_reader.specs.CodeFaults.{first_found, left_out_in}
 use Rattle.michelson_reader.specs.Entries.{name_in, names_in, only_name}
-use Rattle.michelson_reader.specs.Returned.{Refuses, as_names, each}
+use Rattle.michelson_reader.specs.Returned.{as_names, each}
 use Rattle.michelson_reader.specs.ScriptFaults.{Sections, section_body, sections}
 use Rattle.michelson_reader.specs.TypeFaults.{Read, then_read}
 
 -- a refusal of the first is one of all
-pub refused : {A B : Type 0} (r : Read A) (f : A → Read B) (e : ReadFault) → Refuses r e → Refuses (then_read r f) e
-refused r f e (inl memory) = inl memory
-refused r f e (inr fault) = inr (ap (λ (x : Read _). then_read x f) fault)
+pub refused : {A B : Type 0} (r : Read A) (f : A → Read B) (e : ReadFault) → IsTold (read_fault e) r → IsTold (read_fault e) (then_read r f)
+refused r f fault.NoMemory told = tt
+refused r f e told = ap (λ (x : Read _). then_read x f) told
 
 -- the same refusal of what is equal
-pub refused_as : {A : Type 0} (r s : Read A) (e : ReadFault) → r ≡ s → Refuses s e → Refuses r e
-refused_as r s e same (inl memory) = inl memory
-refused_as r s e same (inr fault) = inr (same ∙ fault)
+pub refused_as : {A : Type 0} (r s : Read A) (e : ReadFault) → r ≡ s → IsTold (read_fault e) s → IsTold (read_fault e) r
+refused_as r s e same told = subst (IsTold (read_fault e)) (sym same) told
 
 -- what is left at an item
 left_at : {A B : Type 0} (f : List A → B) (xs : List A) (i : ℕ) (x : A) → i < length xs → get_or xs i x ≡ x → f (drop i xs) ≡ f (x ∷ drop (i + 1) xs)
@@ -54,11 +56,11 @@ module _ {A : Type 0} where
         ∙ sym (ap (first_then front (each (map f (drop (i + 1) nodes)))) read)
         ∙ sym (left_at (λ l. behind front (each (map f l))) nodes i n lt is) ∙ so_far
 
-    pub one_refused : (e : ReadFault) → Refuses (f n) e → Refuses total e
+    pub one_refused : (e : ReadFault) → IsTold (read_fault e) (f n) → IsTold (read_fault e) total
     unfolding first_then
-    one_refused e (inl memory) = inl memory
-    one_refused e (inr fault) =
-        inr (sym so_far ∙ left_at (λ l. behind front (each (map f l))) nodes i n lt is ∙ ap (first_then front (each (map f (drop (i + 1) nodes)))) fault)
+    one_refused fault.NoMemory told = tt
+    one_refused e told =
+        sym so_far ∙ left_at (λ l. behind front (each (map f l))) nodes i n lt is ∙ ap (first_then front (each (map f (drop (i + 1) nodes)))) told
 
 -- ---- words that are left out
 
@@ -80,7 +82,7 @@ module _ (end : ℕ) (s : Sections) (nodes : List Node) (i : ℕ) (n : Node) (lt
   section_next t read =
       left_at (sections end s) nodes i n lt is ∙ ap (λ (r : Read Sections). then_read r (λ more. sections end more (drop (i + 1) nodes))) read
 
-  pub section_refused : (e : ReadFault) → Refuses (section_body n.at (out-Body n.body) s) e → Refuses (sections end s (drop i nodes)) e
+  pub section_refused : (e : ReadFault) → IsTold (read_fault e) (section_body n.at (out-Body n.body) s) → IsTold (read_fault e) (sections end s (drop i nodes))
   section_refused e h =
       refused_as (sections end s (drop i nodes)) _ e (left_at (sections end s) nodes i n lt is)
       (refused (section_body n.at (out-Body n.body) s) (λ more. sections end more (drop (i + 1) nodes)) e h)

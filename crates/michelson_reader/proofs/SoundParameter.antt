@@ -17,7 +17,7 @@ use Rattle.micheline_text.specs.Printed.{is_empty}
 use Rattle.michelson_code.specs.declared.script.Side.{Side}
 use Rattle.michelson_code.specs.declared.script.Side.TheVariants.{Left, Right}
 use Rattle.michelson_code.specs.Brackets.{name_brackets, type_brackets}
-use Rattle.michelson_code.specs.Entries.{Entry, Path, part_at, type_at}
+use Rattle.michelson_code.specs.Entries.{NamedEntry, Path, part_at, type_at}
 use Rattle.michelson_code.specs.Lawful.{is_lawful_entry}
 use Rattle.michelson_code.specs.Printable.{stands_in}
 use Rattle.michelson_reader.specs.Printed.{PartNode, names_below, names_here, noted, parameter_node, part_nodes}
@@ -31,15 +31,15 @@ use Rattle.michelson_reader.proofs.TypeLevels.{Each, induction, parts_of}
 
 -- ---- names here and below
 
-annotated_names : (names : List Entry) → list_all is_lawful_entry names ≡ true → list_all is_annotation (map (λ name. 37 ∷ name) (names_here names)) ≡ true
+annotated_names : (names : List NamedEntry) → list_all is_lawful_entry names ≡ true → list_all is_annotation (map (λ name. 37 ∷ name) (names_here names)) ≡ true
 annotated_names [] h = refl
 annotated_names (([], name) ∷ names) h = let both = and_parts _ _ h in and_from _ _ (name_annotates name both.0) (annotated_names names both.1)
 annotated_names ((side ∷ path, name) ∷ names) h = annotated_names names (and_parts _ _ h).1
 
 -- what holds of names holds in its own way of those below a part
-module _ (P Q : Entry → Bool) where
+module _ (P Q : NamedEntry → Bool) where
   all_below : (side : Side) → ((path : Path) (name : List ℕ) → P (side ∷ path, name) ≡ true → Q (path, name) ≡ true) →
-      (names : List Entry) → list_all P names ≡ true → list_all Q (names_below side names) ≡ true
+      (names : List NamedEntry) → list_all P names ≡ true → list_all Q (names_below side names) ≡ true
   all_below side each [] h = refl
   all_below Left each (([], name) ∷ names) h = all_below Left each names (and_parts _ _ h).1
   all_below Right each (([], name) ∷ names) h = all_below Right each names (and_parts _ _ h).1
@@ -48,11 +48,11 @@ module _ (P Q : Entry → Bool) where
   all_below Right each ((Left ∷ path, name) ∷ names) h = all_below Right each names (and_parts _ _ h).1
   all_below Right each ((Right ∷ path, name) ∷ names) h = let both = and_parts _ _ h in and_from _ _ (each path name both.0) (all_below Right each names both.1)
 
-abbrev deepest : List Entry → ℕ
+abbrev deepest : List NamedEntry → ℕ
 deepest names = greatest (map name_brackets names)
 
 -- the names of a node with two parts stand at it, or one deeper than from a part
-deepest_parts : (k : ℕ) (names : List Entry) → max (1 + k) (deepest names) ≡ 1 + max k (max (deepest (names_below Left names)) (deepest (names_below Right names)))
+deepest_parts : (k : ℕ) (names : List NamedEntry) → max (1 + k) (deepest names) ≡ 1 + max k (max (deepest (names_below Left names)) (deepest (names_below Right names)))
 deepest_parts k [] = omega arith
 deepest_parts k (([], name) ∷ names) = omega (arith, deepest_parts k names)
 deepest_parts k ((Left ∷ path, name) ∷ names) = omega (arith, deepest_parts k names)
@@ -61,7 +61,7 @@ deepest_parts k ((Right ∷ path, name) ∷ names) = omega (arith, deepest_parts
 -- ---- a node that is an `or`
 
 abbrev IsFitParameter : Ty → Type 0
-IsFitParameter t = (names : List Entry) → list_all is_lawful_entry names ≡ true → list_all (stands_in t) names ≡ true →
+IsFitParameter t = (names : List NamedEntry) → list_all is_lawful_entry names ≡ true → list_all (stands_in t) names ≡ true →
     Fit argument_depth (parameter_node t names) (max (type_brackets t) (deepest names))
 
 stands_left : (t s u : Ty) → out-Ty t ≡ ty.Or s u → (path : Path) (name : List ℕ) → stands_in t (Left ∷ path, name) ≡ true → stands_in s (path, name) ≡ true
@@ -70,7 +70,7 @@ stands_left t s u is path name h = sym (ap (λ (x : Ty-F Ty). is_some (option_an
 stands_right : (t s u : Ty) → out-Ty t ≡ ty.Or s u → (path : Path) (name : List ℕ) → stands_in t (Right ∷ path, name) ≡ true → stands_in u (path, name) ≡ true
 stands_right t s u is path name h = sym (ap (λ (x : Ty-F Ty). is_some (option_and_then (type_at path) (part_at Right x))) is) ∙ h
 
-abbrev notes_here : List Entry → List (List ℕ)
+abbrev notes_here : List NamedEntry → List (List ℕ)
 notes_here names = map (λ name. 37 ∷ name) (names_here names)
 
 -- as a word with arguments, whatever the annotations
@@ -90,7 +90,7 @@ or_brackets t s u is =
     let parts = depth-is t ∙ ap (λ (x : Ty-F Ty). 1 + greatest (map depth_of_type (parts_of x))) is in
     omega (arith, parts, depth-is s, depth-is u)
 
-or_sum : (t s u : Ty) → out-Ty t ≡ ty.Or s u → (names : List Entry) →
+or_sum : (t s u : Ty) → out-Ty t ≡ ty.Or s u → (names : List NamedEntry) →
     1 + max (max (type_brackets s) (deepest (names_below Left names))) (max (max (type_brackets u) (deepest (names_below Right names))) 0) ≡ max (type_brackets t) (deepest names)
 or_sum t s u is names =
     let a : ℕ = type_brackets s in
@@ -102,7 +102,7 @@ or_sum t s u is names =
     ∙ sym (deepest_parts (max a b) names)
     ∙ ap (λ (k : ℕ). max k (deepest names)) (sym (or_brackets t s u is))
 
-or_fits : (t s u : Ty) → out-Ty t ≡ ty.Or s u → IsFitParameter s → IsFitParameter u → (names : List Entry) → list_all is_lawful_entry names ≡ true → list_all (stands_in t) names ≡ true →
+or_fits : (t s u : Ty) → out-Ty t ≡ ty.Or s u → IsFitParameter s → IsFitParameter u → (names : List NamedEntry) → list_all is_lawful_entry names ≡ true → list_all (stands_in t) names ≡ true →
     Fit argument_depth (noted (names_here names) (codes "or", parameter_node s (names_below Left names) ∷ parameter_node u (names_below Right names) ∷ [])) (max (type_brackets t) (deepest names))
 or_fits t s u is first second names lawful stands =
     let left = first (names_below Left names) (all_below is_lawful_entry is_lawful_entry Left (λ path name h. h) names lawful) (all_below (stands_in t) (stands_in s) Left (stands_left t s u is) names stands) in
@@ -138,18 +138,18 @@ module _ (t : Ty) (other : IsNoOr (out-Ty t)) where
       true≢false (sym h ∙ gone)
 
   -- all names stand right there
-  shallow : (names : List Entry) → list_all (stands_in t) names ≡ true → deepest names ≤ 1
+  shallow : (names : List NamedEntry) → list_all (stands_in t) names ≡ true → deepest names ≤ 1
   shallow [] h = omega arith
   shallow (([], name) ∷ names) h = omega (arith, shallow names h)
   shallow ((side ∷ path, name) ∷ names) h = absurd (no_way side path name (and_parts (stands_in t (side ∷ path, name)) (list_all (stands_in t) names) h).0)
 
-  word_alone : (names : List Entry) → list_all (stands_in t) names ≡ true → argument_depth (0, not (is_empty (notes_here names) && true)) ≡ deepest names
+  word_alone : (names : List NamedEntry) → list_all (stands_in t) names ≡ true → argument_depth (0, not (is_empty (notes_here names) && true)) ≡ deepest names
   word_alone [] h = refl
   word_alone (([], name) ∷ names) h = omega (arith, shallow names h)
   word_alone ((side ∷ path, name) ∷ names) h = absurd (no_way side path name (and_parts (stands_in t (side ∷ path, name)) (list_all (stands_in t) names) h).0)
 
   other_deep : (ts : List Ty) (k : ℕ) → argument_depth (greatest (map type_brackets ts), not (is_empty (map type_brackets ts))) ≡ k →
-      (names : List Entry) → list_all (stands_in t) names ≡ true → argument_depth (depth_with (notes_here names) ts) ≡ max k (deepest names)
+      (names : List NamedEntry) → list_all (stands_in t) names ≡ true → argument_depth (depth_with (notes_here names) ts) ≡ max k (deepest names)
   other_deep [] k is names h = word_alone names h ∙ omega (arith, is)
   other_deep (u ∷ ts) k is names h = argued (notes_here names) (greatest (map type_brackets (u ∷ ts))) ∙ omega (arith, is, shallow names h)
 
@@ -162,7 +162,7 @@ module _ (t : Ty) (other : IsNoOr (out-Ty t)) where
 
 -- ---- any type
 
-or_node : (t s u : Ty) → out-Ty t ≡ ty.Or s u → (names : List Entry) →
+or_node : (t s u : Ty) → out-Ty t ≡ ty.Or s u → (names : List NamedEntry) →
     parameter_node t names ≡ noted (names_here names) (codes "or", parameter_node s (names_below Left names) ∷ parameter_node u (names_below Right names) ∷ [])
 or_node t s u is names =
     ap (λ (p : PartNode). p.1 names) (part_of-level t) ∙ ap (λ (x : Ty-F Ty). noted (names_here names) (part_nodes (map-Ty Ty PartNode part_of x) names)) is

@@ -1,16 +1,17 @@
 -- The fault that is told is the first one, and no other is.
-use Rattle.std.proofs.Common.{◌≡◌, ◌⊎◌, inl, inr, ℕ, List, Result, Ok, Err, ap, subst}
+use Rattle.std.proofs.Common.{◌≡◌, ◌⊎◌, inl, inr, ℕ, List, Result, Ok, Err, refl, ap, subst}
 use Rattle.std.specs.Prelude.{◌↔◌, IfErr}
 use Rattle.micheline_text.specs.declared.node.Node.{Node}
 use Rattle.value_core.specs.declared.ty.Ty.{Ty}
+use Rattle.micheline_text.specs.Told.{AnswersUnlessFull}
 use Rattle.michelson_code.specs.declared.script.Script.{Script}
 use Rattle.data_nodes.specs.FirstFault.{IsFirstOf, Place}
 use Rattle.michelson_reader.specs.declared.fault.ReadFault.{ReadFault}
 use Rattle.michelson_reader.specs.declared.fault.ReadFault.TheVariants as fault
+use Rattle.michelson_reader.specs.Answers.{read_fault}
 use Rattle.michelson_reader.specs.CodeFaults.{code_read, instruction_read}
 use Rattle.michelson_reader.specs.FirstFault.{IsFirstFault, IsScriptFault, StandsAt, StandsInScript}
 use Rattle.michelson_reader.specs.Roles.{AsCode, AsInstruction, AsType}
-use Rattle.michelson_reader.specs.Returned.{Answers}
 use Rattle.michelson_reader.specs.Script.{AreSections, unbraced}
 use Rattle.michelson_reader.specs.ScriptFaults.{script_read}
 use Rattle.michelson_reader.specs.TypeFaults.{Read, type_read}
@@ -55,7 +56,7 @@ none_in_script end ns s are = none_in_read (StandsInScript end (unbraced ns)) s 
 
 -- ---- what is told of a node that was read as a type
 
-pub type_refused : (n : Node) (r : Result Ty ReadFault) → Answers (λ t. t) (type_read n) r → IfErr r (λ e. (e ≡ fault.NoMemory) ⊎ IsFirstFault AsType n e)
+pub type_refused : (n : Node) (r : Result Ty ReadFault) → AnswersUnlessFull read_fault (λ t. t) r (type_read n) → IfErr r (λ e. (e ≡ fault.NoMemory) ⊎ IsFirstFault AsType n e)
 type_refused n (Ok t) answers = tt
-type_refused n (Err e) (inl full) = inl full
-type_refused n (Err e) (inr told) = inr ((type_fault n e).0 told)
+type_refused n (Err fault.NoMemory) told = inl refl
+type_refused n (Err e) told = inr ((type_fault n e).0 told)

@@ -1,16 +1,15 @@
 -- What is told of a node from what is read of it as a type, and that the text of a type is read again.
-use Rattle.std.proofs.Common.{◌≡◌, ◌≤◌, ◌-◌, ◌⊎◌, inl, inr, ℕ, true, List, Result, Ok, Err, subst, ap, ◌∙◌, arith}
-use Rattle.std.specs.Prelude.{IfErr, IfOk, IsTrue}
+use Rattle.std.proofs.Common.{◌≡◌, ◌≤◌, ◌-◌, ℕ, true, List, Result, Ok, Err, subst, ap, ◌∙◌, arith}
+use Rattle.std.specs.Prelude.{IfOk, IsTrue}
 use Rattle.value_core.specs.declared.ty.Ty.{Ty}
 use Rattle.value_core.specs.Depth.{depth_of_type}
 use Rattle.micheline_text.specs.declared.node.Node.{Node}
 use Rattle.micheline_text.specs.Again.{IsTextOfOne, brackets, is_well_named, unplaced}
 use Rattle.data_nodes.proofs.Unplaced.{same_answer}
 use Rattle.michelson_reader.specs.declared.fault.ReadFault.{ReadFault}
-use Rattle.michelson_reader.specs.declared.fault.ReadFault.TheVariants as fault
-use Rattle.michelson_reader.specs.Answers.{Gives}
+use Rattle.micheline_text.specs.Told.{AnswersUnlessFull}
+use Rattle.michelson_reader.specs.Answers.{read_fault}
 use Rattle.michelson_reader.specs.Printed.{type_node}
-use Rattle.michelson_reader.specs.Returned.{Answers}
 use Rattle.michelson_reader.specs.TypeFaults.{type_read}
 use Rattle.michelson_reader.specs.Types.{IsTypeText, is_type}
 use Rattle.michelson_reader.proofs.PrintedTypes.{type_is_written}
@@ -18,14 +17,12 @@ use Rattle.michelson_reader.proofs.TypeDepths.{type_brackets, type_is_named}
 use Rattle.michelson_reader.proofs.TypeLaws.{type-read}
 use Rattle.michelson_reader.proofs.UnplacedTypes.{is_type-unplaced}
 
-pub found : (n : Node) (r : Result Ty ReadFault) → Answers (λ t. t) (type_read n) r → IfOk r (λ t. IsTrue (is_type t n))
+pub found : (n : Node) (r : Result Ty ReadFault) → AnswersUnlessFull read_fault (λ t. t) r (type_read n) → IfOk r (λ t. IsTrue (is_type t n))
 found n (Ok t) answers = (type-read n t).0 answers
 found n (Err e) answers = tt
 
-pub only : (n : Node) (r : Result Ty ReadFault) (t : Ty) → Answers (λ t. t) (type_read n) r → IsTrue (is_type t n) → Gives t r
-only n (Ok u) t answers written = let read : type_read n ≡ Ok t = (type-read n t).1 written in cc
-only n (Err e) t (inl full) written = full
-only n (Err e) t (inr refused) written = let read : type_read n ≡ Ok t = (type-read n t).1 written in absurd cc
+pub only : (n : Node) (r : Result Ty ReadFault) (t : Ty) → AnswersUnlessFull read_fault (λ t. t) r (type_read n) → IsTrue (is_type t n) → AnswersUnlessFull read_fault (λ t. t) r (Ok t)
+only n r t answers written = subst (AnswersUnlessFull read_fault (λ t. t) r) ((type-read n t).1 written) answers
 
 -- a text of the node of a type is one of the type
 pub again : (text : List ℕ) (t : Ty) (n : Node) → n ≡ type_node t →

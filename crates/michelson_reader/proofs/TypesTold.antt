@@ -34,7 +34,7 @@ use Rattle.michelson_reader.proofs.TypeNodes.{read_shown}
 abbrev pub HasType : ℕ → List ℕ → Type 0
 HasType count name = (x : Ty-F Ty) × ((word_and_parts x).0 ≡ name) × TakesParts x count
 
-plain_rows : AllByRecursion (λ (w : List ℕ × Ty). HasType 0 w.0) plain_types
+pub plain_rows : AllByRecursion (λ (w : List ℕ × Ty). HasType 0 w.0) plain_types
 plain_rows = (
   (ty.Unit, refl, refl),
   (
@@ -58,7 +58,7 @@ plain_rows = (
   ),
 )
 
-rows_of_one : AllByRecursion (λ (w : List ℕ × (Ty → Ty)). HasType 1 w.0) types_of_one
+pub rows_of_one : AllByRecursion (λ (w : List ℕ × (Ty → Ty)). HasType 1 w.0) types_of_one
 rows_of_one = (
   (ty.Option kind.Unit, refl, refl),
   ((ty.List kind.Unit, refl, refl), ((ty.Set kind.Unit, refl, refl), ((ty.Contract kind.Unit, refl, refl), tt))),
@@ -67,7 +67,7 @@ rows_of_one = (
 two_or_more : 2 ≤ 2
 two_or_more = omega arith
 
-rows_of_two : AllByRecursion (λ (w : List ℕ × (Ty → Ty → Ty)). HasType 2 w.0) types_of_two
+pub rows_of_two : AllByRecursion (λ (w : List ℕ × (Ty → Ty → Ty)). HasType 2 w.0) types_of_two
 rows_of_two = (
   (ty.Or kind.Unit kind.Unit, refl, refl),
   (

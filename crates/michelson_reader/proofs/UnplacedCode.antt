@@ -11,11 +11,11 @@ use Rattle.micheline_text.specs.declared.node.Body.TheViews.{out-Body}
 use Rattle.micheline_text.specs.Again.{unplaced}
 use Rattle.michelson_code.specs.declared.instr.Instr.{Instr}
 use Rattle.data_nodes.specs.Nodes.{Test}
-use Rattle.data_nodes.proofs.Unplaced.{IgnoresPlaces, all_are-unplaced, bare, is_number-unplaced, is_sequence-unplaced, level-unplaced}
+use Rattle.data_nodes.proofs.Unplaced.{IgnoresPlaces, all_are-unplaced, bare, is_numeral-unplaced, is_sequence-unplaced, level-unplaced}
 use Rattle.data_nodes.proofs.WrittenNodes.{is_written-unplaced}
 use Rattle.michelson_code.specs.Forms.{Form, Operand, ANumber, AType, SomeData, ACode, bodies, form_of}
-use Rattle.michelson_code.specs.Printable.{is_count}
-use Rattle.michelson_reader.specs.Code.{is_code, is_entry, is_form_body, is_instruction, is_operand, is_read_at}
+use Rattle.michelson_code.specs.Printable.{is_count, is_datum}
+use Rattle.michelson_reader.specs.Code.{is_code, is_entry, is_form_body, is_instruction, is_operand}
 use Rattle.michelson_code.specs.Levels.{EachIn, form_map, induction, operand_map}
 use Rattle.michelson_reader.proofs.FormLevels.{is_instruction-level}
 use Rattle.michelson_reader.proofs.UnplacedTypes.{is_type-unplaced}
@@ -29,9 +29,9 @@ body_ignored (i ∷ c) h = (h.0, body_ignored c h.1)
 
 operands_ignored : (os : List (Operand Instr)) → EachIn Ignored (bodies os) → AllByRecursion IgnoresPlaces (map is_operand (map (operand_map is_instruction) os))
 operands_ignored [] h = tt
-operands_ignored (ANumber least n ∷ os) h = (λ m. ap (λ (b : Bool). is_count least n && b) (is_number-unplaced (pos n) m), operands_ignored os h)
+operands_ignored (ANumber least n ∷ os) h = (λ m. ap (λ (b : Bool). is_count least n && b) (is_numeral-unplaced (pos n) m), operands_ignored os h)
 operands_ignored (AType t ∷ os) h = (is_type-unplaced t, operands_ignored os h)
-operands_ignored (SomeData t v ∷ os) h = (λ m. ap (λ (b : Bool). is_read_at t v && b) (is_written-unplaced v m), operands_ignored os h)
+operands_ignored (SomeData t v ∷ os) h = (λ m. ap (λ (b : Bool). is_datum t v && b) (is_written-unplaced v m), operands_ignored os h)
 operands_ignored (ACode c ∷ os) h = (is_sequence-unplaced (map is_instruction c) (body_ignored c h.0), operands_ignored os h.1)
 
 form_ignored : (f : Form Test) → AllByRecursion IgnoresPlaces (map is_operand f.operands) → (x : Body-F Body Node) → is_form_body f (bare x) ≡ is_form_body f x

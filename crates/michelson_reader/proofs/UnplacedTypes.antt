@@ -20,7 +20,7 @@ use Rattle.data_nodes.specs.Nodes.{Test, applied}
 use Rattle.data_nodes.proofs.Unplaced.{IgnoresPlaces, are_items-unplaced, bare, is_applied-unplaced, level-unplaced}
 use Rattle.data_nodes.proofs.NodeLevels.{shows_prim}
 use Rattle.michelson_reader.specs.Types.{is_pair, is_pair_body, is_type, type_level, word_and_parts}
-use Rattle.michelson_code.specs.Entries.{Entry}
+use Rattle.michelson_code.specs.Entries.{NamedEntry}
 use Rattle.michelson_reader.specs.Entries.{entries_below, entries_level, entries_of, entry_in}
 use Rattle.michelson_reader.proofs.NodeInduction as nodes
 use Rattle.michelson_reader.proofs.ParameterLevels.{entries-level, parts_entries}
@@ -57,7 +57,7 @@ all_same [] h = refl
 all_same (n ∷ ns) h = λ i. h.0 i ∷ all_same ns h.1 i
 
 level_same : (x : Body-F Body Node) → nodes.Each SameNames (nodes.parts_of x) → entries_level (parts_entries (bare x)) ≡ entries_level (parts_entries x)
-level_same (body.Prim name notes args) h = ap (λ (below : List (Option (List Entry))). option_and_then (entries_below name below) (entry_in notes)) (all_same args h)
+level_same (body.Prim name notes args) h = ap (λ (below : List (Option (List NamedEntry))). option_and_then (entries_below name below) (entry_in notes)) (all_same args h)
 level_same _ h = refl
 
 -- the names of entries don't turn on places

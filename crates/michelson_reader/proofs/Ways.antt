@@ -16,9 +16,11 @@ use Rattle.micheline_text.specs.declared.node.Body.TheViews.{out-Body, roll-Body
 use Rattle.michelson_code.specs.declared.script.Side.{Side}
 use Rattle.michelson_code.specs.declared.script.Side.TheVariants.{Left, Right}
 use Rattle.michelson_reader.specs.declared.fault.ReadFault.{ReadFault}
-use Rattle.michelson_code.specs.Entries.{Entry, Path}
+use Rattle.michelson_code.specs.Entries.{NamedEntry, Path}
 use Rattle.michelson_reader.specs.Entries.{entry_in, from, in_order, own}
-use Rattle.michelson_reader.specs.Returned.{Answers, IsPart, Refuses, below_way}
+use Rattle.micheline_text.specs.Told.{AnswersUnlessFull, IsTold}
+use Rattle.michelson_reader.specs.Answers.{read_fault}
+use Rattle.michelson_reader.specs.Returned.{IsReadBehind, below_way}
 use Rattle.michelson_reader.specs.ScriptFaults.{below, either, other, parameter_at, parameter_read}
 use Rattle.michelson_reader.specs.TypeFaults.{Read, no_form, then_read, type_read}
 use Rattle.michelson_reader.proofs.NodeInduction.{roll-out}
@@ -33,22 +35,22 @@ append_none : {A : Type 0} (xs : List A) → xs ++ [] ≡ xs
 append_none [] = refl
 append_none (x ∷ xs) = ap (λ (l : List _). x ∷ l) (append_none xs)
 
-pub below_way-append : (way : Path) (xs ys : List Entry) → below_way way (xs ++ ys) ≡ below_way way xs ++ below_way way ys
+pub below_way-append : (way : Path) (xs ys : List NamedEntry) → below_way way (xs ++ ys) ≡ below_way way xs ++ below_way way ys
 below_way-append way [] ys = refl
-below_way-append way (e ∷ xs) ys = ap (λ (l : List Entry). (way ++ e.0, e.1) ∷ l) (below_way-append way xs ys)
+below_way-append way (e ∷ xs) ys = ap (λ (l : List NamedEntry). (way ++ e.0, e.1) ∷ l) (below_way-append way xs ys)
 
-below_way-from : (way : Path) (side : Side) (es : List Entry) → below_way (way ++ side ∷ []) es ≡ below_way way (from side es)
+below_way-from : (way : Path) (side : Side) (es : List NamedEntry) → below_way (way ++ side ∷ []) es ≡ below_way way (from side es)
 below_way-from way side [] = refl
 below_way-from way side (e ∷ es) = λ i. (append_assoc way (side ∷ []) e.0 i, e.1) ∷ below_way-from way side es i
 
-pub below_root : (es : List Entry) → below_way [] es ≡ es
+pub below_root : (es : List NamedEntry) → below_way [] es ≡ es
 below_root [] = refl
-below_root (e ∷ es) = ap (λ (l : List Entry). e ∷ l) (below_root es)
+below_root (e ∷ es) = ap (λ (l : List NamedEntry). e ∷ l) (below_root es)
 
 pub own_name : (way : Path) (name : List ℕ) → (way, name) ∷ [] ≡ below_way way (own (Some name))
 own_name way name = λ i. (sym (append_none way) i, name) ∷ []
 
-pub no_own_name : (way : Path) (before : List Entry) → before ≡ before ++ below_way way (own None)
+pub no_own_name : (way : Path) (before : List NamedEntry) → before ≡ before ++ below_way way (own None)
 no_own_name way before = sym (append_none before)
 
 -- ---- what is read of a node of the parameter
@@ -57,7 +59,7 @@ pub two_parts : (args : List Node) (b : Bool) → (nat_eq (length args) 2 && b) 
 two_parts args b holds = eqb-true (length args) 2 (and_parts (nat_eq (length args) 2) b holds).0
 
 module _ (n : Node) (name : List ℕ) (notes : List (List ℕ)) (args : List Node) (shown : n.body ≡ variant.Prim name notes args) where
-  pub unfit_notes : (e : ReadFault) → entry_in notes ≡ None → Told n.at name e → Refuses (parameter_read n) e
+  pub unfit_notes : (e : ReadFault) → entry_in notes ≡ None → Told n.at name e → IsTold (read_fault e) (parameter_read n)
   unfit_notes e unfit told =
       told_as n.at name e (parameter_read n)
       (parameter_prim n name notes args shown ∙ ap (λ (o : Option (Option (List ℕ))). option_map_or (below n name (map reader args)) o (no_form n.at name)) unfit) told
@@ -91,31 +93,31 @@ module _ (n : Node) (name : List ℕ) (notes : List (List ℕ)) (args : List Nod
 
 -- ---- parts
 
-module _ (n : Node) (way : Path) (before : List Entry) (name : Option (List ℕ)) where
-  pub other_part : (t : Ty) → parameter_read n ≡ other n name → type_read n ≡ Ok t → IsPart n way before t (before ++ below_way way (own name))
+module _ (n : Node) (way : Path) (before : List NamedEntry) (name : Option (List ℕ)) where
+  pub other_part : (t : Ty) → parameter_read n ≡ other n name → type_read n ≡ Ok t → IsReadBehind n way before t (before ++ below_way way (own name))
   other_part t is read = (own name, is ∙ ap (λ (r : Read Ty). then_read r (λ u. Ok (u, own name))) read, refl)
 
-  pub other_refused : (e : ReadFault) → parameter_read n ≡ other n name → Refuses (type_read n) e → Refuses (parameter_read n) e
+  pub other_refused : (e : ReadFault) → parameter_read n ≡ other n name → IsTold (read_fault e) (type_read n) → IsTold (read_fault e) (parameter_read n)
   other_refused e is h = refused_as (parameter_read n) (other n name) e is (refused (type_read n) (λ t. Ok (t, own name)) e h)
 
   module _ (x y : Node) (is : parameter_read n ≡ either name (reader x) (reader y)) where
-    pub left_refused : (e : ReadFault) → Refuses (parameter_read x) e → Refuses (parameter_read n) e
+    pub left_refused : (e : ReadFault) → IsTold (read_fault e) (parameter_read x) → IsTold (read_fault e) (parameter_read n)
     left_refused e h =
         refused_as (parameter_read n) (either name (reader x) (reader y)) e is
         (refused (parameter_read x) (λ s. then_read (parameter_read y) (λ t. Ok (kind.Or s.0 t.0, in_order name s.1 t.1))) e h)
 
-    module _ (s : Ty) (middle : List Entry) (left : IsPart x (way ++ Left ∷ []) (before ++ below_way way (own name)) s middle) where
+    module _ (s : Ty) (middle : List NamedEntry) (left : IsReadBehind x (way ++ Left ∷ []) (before ++ below_way way (own name)) s middle) where
       left_read : either name (reader x) (reader y) ≡ then_read (parameter_read y) (λ t. Ok (kind.Or s t.0, in_order name left.0 t.1))
-      left_read = ap (λ (r : Read (Ty × List Entry)). then_read r (λ s. then_read (parameter_read y) (λ t. Ok (kind.Or s.0 t.0, in_order name s.1 t.1)))) left.1
+      left_read = ap (λ (r : Read (Ty × List NamedEntry)). then_read r (λ s. then_read (parameter_read y) (λ t. Ok (kind.Or s.0 t.0, in_order name s.1 t.1)))) left.1
 
-      pub right_refused : (e : ReadFault) → Refuses (parameter_read y) e → Refuses (parameter_read n) e
+      pub right_refused : (e : ReadFault) → IsTold (read_fault e) (parameter_read y) → IsTold (read_fault e) (parameter_read n)
       right_refused e h =
           refused_as (parameter_read n) _ e (is ∙ left_read) (refused (parameter_read y) (λ t. Ok (kind.Or s t.0, in_order name left.0 t.1)) e h)
 
-      pub or_part : (t : Ty) (after : List Entry) → IsPart y (way ++ Right ∷ []) middle t after → IsPart n way before (kind.Or s t) after
+      pub or_part : (t : Ty) (after : List NamedEntry) → IsReadBehind y (way ++ Right ∷ []) middle t after → IsReadBehind n way before (kind.Or s t) after
       or_part t after right = (
         in_order name left.0 right.0,
-        is ∙ left_read ∙ ap (λ (r : Read (Ty × List Entry)). then_read r (λ t. Ok (kind.Or s t.0, in_order name left.0 t.1))) right.1,
+        is ∙ left_read ∙ ap (λ (r : Read (Ty × List NamedEntry)). then_read r (λ t. Ok (kind.Or s t.0, in_order name left.0 t.1))) right.1,
         names,
       )
         where
@@ -125,20 +127,20 @@ module _ (n : Node) (way : Path) (before : List Entry) (name : Option (List ℕ)
               let rs = below_way way (from Right right.0) in
               let here = below_way way (own name) in
               let below : below_way way (in_order name left.0 right.0) ≡ here ++ (ls ++ rs) =
-              below_way-append way (own name) (from Left left.0 ++ from Right right.0) ∙ ap (λ (l : List Entry). here ++ l) (below_way-append way (from Left left.0) (from Right right.0)) in
+              below_way-append way (own name) (from Left left.0 ++ from Right right.0) ∙ ap (λ (l : List NamedEntry). here ++ l) (below_way-append way (from Left left.0) (from Right right.0)) in
               let start : after ≡ ((before ++ here) ++ ls) ++ rs =
-              right.2 ∙ (λ i. (left.2 ∙ ap (λ (l : List Entry). (before ++ here) ++ l) (below_way-from way Left left.0)) i ++ below_way-from way Right right.0 i) in
-              start ∙ append_assoc (before ++ here) ls rs ∙ append_assoc before here (ls ++ rs) ∙ sym (ap (λ (l : List Entry). before ++ l) below)
+              right.2 ∙ (λ i. (left.2 ∙ ap (λ (l : List NamedEntry). (before ++ here) ++ l) (below_way-from way Left left.0)) i ++ below_way-from way Right right.0 i) in
+              start ∙ append_assoc (before ++ here) ls rs ∙ append_assoc before here (ls ++ rs) ∙ sym (ap (λ (l : List NamedEntry). before ++ l) below)
 
 -- ---- a node that is no `or`
 
-module _ (n : Node) (way : Path) (before : List Entry) (name : Option (List ℕ)) (is : parameter_read n ≡ other n name) where
-  pub other_parts : (after : List Entry) (r : Result Ty ReadFault) → after ≡ before ++ below_way way (own name) → Answers (λ t. t) (type_read n) r →
-      IfOk r (λ t. IsPart n way before t after)
+module _ (n : Node) (way : Path) (before : List NamedEntry) (name : Option (List ℕ)) (is : parameter_read n ≡ other n name) where
+  pub other_parts : (after : List NamedEntry) (r : Result Ty ReadFault) → after ≡ before ++ below_way way (own name) → AnswersUnlessFull read_fault (λ t. t) r (type_read n) →
+      IfOk r (λ t. IsReadBehind n way before t after)
   other_parts after (Ok t) same read = (own name, is ∙ ap (λ (r : Read Ty). then_read r (λ u. Ok (u, own name))) read, same)
   other_parts after (Err e) same read = tt
 
-  pub other_faults : (r : Result Ty ReadFault) → Answers (λ t. t) (type_read n) r → IfErr r (Refuses (parameter_read n))
+  pub other_faults : (r : Result Ty ReadFault) → AnswersUnlessFull read_fault (λ t. t) r (type_read n) → IfErr r (λ e. IsTold (read_fault e) (parameter_read n))
   other_faults (Ok t) read = tt
   other_faults (Err e) h = other_refused n way before name e is h
 
@@ -154,5 +156,5 @@ pub no_word_there : (n : Node) → ((word : List ℕ) (notes : List (List ℕ)) 
 no_word_there n isnt = parameter-level n ∙ no_word n (out-Body n.body) refl isnt
 
 -- the parameter itself
-pub whole : (n : Node) (t : Ty) (names : List Entry) → IsPart n [] [] t names → parameter_read n ≡ Ok (t, names)
-whole n t names part = part.1 ∙ ap (λ (l : List Entry). Ok (t, l)) (sym (part.2 ∙ below_root part.0))
+pub whole : (n : Node) (t : Ty) (names : List NamedEntry) → IsReadBehind n [] [] t names → parameter_read n ≡ Ok (t, names)
+whole n t names part = part.1 ∙ ap (λ (l : List NamedEntry). Ok (t, l)) (sym (part.2 ∙ below_root part.0))

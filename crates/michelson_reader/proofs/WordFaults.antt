@@ -12,33 +12,36 @@ use Rattle.michelson_reader.specs.declared.fault.ReadFault.{ReadFault}
 use Rattle.michelson_reader.specs.CodeFaults as code
 use Rattle.michelson_reader.specs.CodeFaults.{Reader, alone, entry, number, pushed, with_one, with_two}
 use Rattle.michelson_reader.specs.Names.{forms_of_body, forms_of_number, forms_of_two_bodies, forms_of_type, named, plain_forms, plain_types, types_of_one, types_of_two}
-use Rattle.michelson_reader.specs.Returned.{Refuses, each, nested, read_of}
+use Rattle.micheline_text.specs.Told.{IsTold}
+use Rattle.michelson_reader.specs.Answers.{read_fault}
+use Rattle.michelson_reader.specs.Returned.{each, nested, read_of}
 use Rattle.michelson_reader.specs.TypeFaults.{Read, applied, comb, no_form, then_read, type_read}
 use Rattle.michelson_reader.proofs.ReadTurns.{refused_as}
 use Rattle.michelson_reader.proofs.Refusals.{no_form-refuses}
 
 -- told of the word itself
 abbrev pub Told : ℕ → List ℕ → ReadFault → Type 0
-Told at name e = Refuses {A = Unit {0}} (no_form at name) e
+Told at name e = IsTold {Y = Unit {0}} (read_fault e) (no_form at name)
 
-pub told_as : {A : Type 0} (at : ℕ) (name : List ℕ) (e : ReadFault) (r : Read A) → r ≡ no_form at name → Told at name e → Refuses r e
-told_as at name e r same told = refused_as r (no_form at name) e same (no_form-refuses at name e told)
+module _ {A : Type 0} where
+  pub told_as : (at : ℕ) (name : List ℕ) (e : ReadFault) (r : Read A) → r ≡ no_form at name → Told at name e → IsTold (read_fault e) r
+  told_as at name e r same told = refused_as r (no_form at name) e same (no_form-refuses A at name e told)
 
 -- ---- types
 
 module _ (at : ℕ) (name : List ℕ) (e : ReadFault) where
-  pub none_alone : (args : List Node) → length args < 1 → named name plain_types ≡ None → Told at name e → Refuses (applied at name (map type_read args)) e
+  pub none_alone : (args : List Node) → length args < 1 → named name plain_types ≡ None → Told at name e → IsTold (read_fault e) (applied at name (map type_read args))
   none_alone [] few none told = told_as at name e (applied at name []) (ap (λ (o : Option Ty). option_map_or (λ t. Ok t) o (no_form at name)) none) told
   none_alone (x ∷ args) few none told = absurd (omega arith)
 
-  pub none_of_one : (args : List Node) → length args ≡ 1 → named name types_of_one ≡ None → Told at name e → Refuses (applied at name (map type_read args)) e
+  pub none_of_one : (args : List Node) → length args ≡ 1 → named name types_of_one ≡ None → Told at name e → IsTold (read_fault e) (applied at name (map type_read args))
   none_of_one [] one none told = absurd (omega arith)
   none_of_one (x ∷ []) one none told =
       told_as at name e (applied at name (type_read x ∷ []))
       (ap (λ (o : Option (Ty → Ty)). option_map_or (λ f. then_read (type_read x) (λ t. Ok (f t))) o (no_form at name)) none) told
   none_of_one (x ∷ y ∷ args) one none told = absurd (omega arith)
 
-  pub none_of_two : (args : List Node) → length args ≡ 2 → named name types_of_two ≡ None → Told at name e → Refuses (applied at name (map type_read args)) e
+  pub none_of_two : (args : List Node) → length args ≡ 2 → named name types_of_two ≡ None → Told at name e → IsTold (read_fault e) (applied at name (map type_read args))
   none_of_two [] two none told = absurd (omega arith)
   none_of_two (x ∷ []) two none told = absurd (omega arith)
   none_of_two (x ∷ y ∷ []) two none told =
@@ -46,7 +49,7 @@ module _ (at : ℕ) (name : List ℕ) (e : ReadFault) where
       (ap (λ (o : Option (Ty → Ty → Ty)). option_map_or (λ f. then_read (type_read x) (λ s. then_read (type_read y) (λ t. Ok (f s t)))) o (no_form at name)) none) told
   none_of_two (x ∷ y ∷ z ∷ args) two none told = absurd (omega arith)
 
-  pub not_a_pair : (args : List Node) → 3 ≤ length args → bytes_eq name (codes "pair") ≡ false → Told at name e → Refuses (applied at name (map type_read args)) e
+  pub not_a_pair : (args : List Node) → 3 ≤ length args → bytes_eq name (codes "pair") ≡ false → Told at name e → IsTold (read_fault e) (applied at name (map type_read args))
   not_a_pair [] many isnt told = absurd (omega arith)
   not_a_pair (x ∷ []) many isnt told = absurd (omega arith)
   not_a_pair (x ∷ y ∷ []) many isnt told = absurd (omega arith)
@@ -100,7 +103,7 @@ module _ (at : ℕ) (name : List ℕ) (e : ReadFault) where
   alone_by : List (List ℕ) → Bool → Option Instr → Read Instr
   alone_by notes self plain = if self then then_read (entry at notes) (λ e. Ok (instr.SelfEntry e)) else option_map_or (λ i. Ok i) plain (no_form at name)
 
-  pub not_alone : (notes : List (List ℕ)) → bytes_eq name (codes "SELF") ≡ false → named name plain_forms ≡ None → Told at name e → Refuses (alone at name notes) e
+  pub not_alone : (notes : List (List ℕ)) → bytes_eq name (codes "SELF") ≡ false → named name plain_forms ≡ None → Told at name e → IsTold (read_fault e) (alone at name notes)
   unfolding alone_by
   not_alone notes isnt none told = told_as at name e (alone at name notes) (λ i. alone_by notes (isnt i) (none i)) told
 
@@ -112,7 +115,7 @@ module _ (at : ℕ) (name : List ℕ) (e : ReadFault) where
       (option_map_or (λ f. then_read x.code (λ c. Ok (f c))) body_form (no_form at name)))
 
   pub not_with_one : (notes : List (List ℕ)) (x : Reader) → bytes_eq name (codes "CONTRACT") ≡ false → named name forms_of_number ≡ None → named name forms_of_type ≡ None →
-      named name forms_of_body ≡ None → Told at name e → Refuses (with_one at name notes x) e
+      named name forms_of_body ≡ None → Told at name e → IsTold (read_fault e) (with_one at name notes x)
   unfolding one_by
   not_with_one notes x isnt number type body told = told_as at name e (with_one at name notes x) (λ i. one_by notes x (isnt i) (number i) (type i) (body i)) told
 
@@ -124,12 +127,12 @@ module _ (at : ℕ) (name : List ℕ) (e : ReadFault) where
       else option_map_or (λ f. then_read x.code (λ c. then_read y.code (λ d. Ok (f c d)))) bodies (no_form at name)
 
   pub not_with_two : (x y : Reader) → bytes_eq name (codes "PUSH") ≡ false → bytes_eq name (codes "EMPTY_MAP") ≡ false → bytes_eq name (codes "DIP") ≡ false →
-      named name forms_of_two_bodies ≡ None → Told at name e → Refuses (with_two at name x y) e
+      named name forms_of_two_bodies ≡ None → Told at name e → IsTold (read_fault e) (with_two at name x y)
   unfolding two_by
   not_with_two x y push empty dip bodies told = told_as at name e (with_two at name x y) (λ i. two_by x y (push i) (empty i) (dip i) (bodies i)) told
 
-  pub three_arguments : (notes : List (List ℕ)) (args : List Node) → 3 ≤ length args → Told at name e → Refuses (code.applied at name notes (map read_of args)) e
+  pub three_arguments : (notes : List (List ℕ)) (args : List Node) → 3 ≤ length args → Told at name e → IsTold (read_fault e) (code.applied at name notes (map read_of args))
   three_arguments notes [] many told = absurd (omega arith)
   three_arguments notes (x ∷ []) many told = absurd (omega arith)
   three_arguments notes (x ∷ y ∷ []) many told = absurd (omega arith)
-  three_arguments notes (x ∷ y ∷ z ∷ more) many told = no_form-refuses at name e told
+  three_arguments notes (x ∷ y ∷ z ∷ more) many told = no_form-refuses Instr at name e told

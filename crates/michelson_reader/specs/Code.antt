@@ -2,8 +2,6 @@
 use Rattle.std.specs.Prelude.{ℕ, pos, Bool, true, false, ◌&&◌, List, [], ◌∷◌, map, Option, None, Some}
 use Rattle.std.specs.Cmp.Lexicographic.{pointwise}
 use Rattle.std.specs.Str.{bytes_eq}
-use Rattle.value_core.specs.declared.ty.Ty.{Ty}
-use Rattle.value_core.specs.declared.val.Val.{Val}
 use Rattle.value_core.specs.Leaves.{is_name}
 use Rattle.micheline_text.specs.declared.node.Node.{Node}
 use Rattle.micheline_text.specs.declared.node.Body.{Body}
@@ -13,23 +11,18 @@ use Rattle.micheline_text.specs.declared.node.Body.TheViews.{out-Body}
 use Rattle.michelson_code.specs.declared.instr.Instr.{Instr}
 use Rattle.michelson_code.specs.declared.instr.Instr.TheOpen.{Instr-F}
 use Rattle.michelson_code.specs.declared.instr.Instr.TheFolds.{fold-Instr}
-use Rattle.data_nodes.specs.Addressed.{has_addresses}
-use Rattle.data_nodes.specs.Nodes.{Test, all_are, is_number, is_sequence}
+use Rattle.data_nodes.specs.Nodes.{Test, all_are, is_numeral, is_sequence}
 use Rattle.data_nodes.specs.Data.{is_written}
 use Rattle.michelson_reader.specs.Entries.{names_in}
 use Rattle.michelson_code.specs.Forms.{Form, Operand, ANumber, AType, SomeData, ACode, form_at}
 use Rattle.michelson_code.specs.Printable.{is_count, is_datum}
 use Rattle.michelson_reader.specs.Types.{is_type}
 
--- a value that is read at a type; each address is one
-abbrev pub is_read_at : Ty → Val → Bool
-is_read_at t v = is_datum t v && has_addresses v
-
 -- what an operand is written as
 abbrev pub is_operand : Operand Test → Test
-is_operand (ANumber least n) node = is_count least n && is_number (pos n) node
+is_operand (ANumber least n) node = is_count least n && is_numeral (pos n) node
 is_operand (AType t) node = is_type t node
-is_operand (SomeData t v) node = is_read_at t v && is_written v node
+is_operand (SomeData t v) node = is_datum t v && is_written v node
 is_operand (ACode c) node = is_sequence c node
 
 -- the annotations give this name of an entry, or none; at other words they say nothing

@@ -19,6 +19,10 @@ use Rattle.michelson_reader.specs.Types.{word_and_parts}
 abbrev pub Level : Type 0
 Level = Body-F Body Node
 
+-- a type or an instruction is written with the word; this is what `is_known` decides
+abbrev pub IsKnownWord : List ℕ → Type 0
+IsKnownWord name = ((x : Ty-F Ty) × ((word_and_parts x).0 ≡ name)) ⊎ ((i : Instr) × ((form_of i).word ≡ name))
+
 -- what is told of a word that can't stand there: whether it is left out or unknown comes before anything else
 abbrev pub word_fault : ℕ → List ℕ → ReadFault
 word_fault at name = if is_known name then fault.Arity at else if is_left_out name then fault.LeftOut at name else fault.UnknownPrim at
@@ -39,6 +43,7 @@ TakesParts x count = length (word_and_parts x).1 ≡ count
 abbrev pub HasNoType : List ℕ → ℕ → Type 0
 HasNoType name count = (x : Ty-F Ty) → (word_and_parts x).0 ≡ name → TakesParts x count → ⊥
 
+-- a node that no type is written as, whatever its parts are
 abbrev pub IsNoType : Level → Type 0
 IsNoType (body.Prim name notes args) = HasNoType name (length args)
 IsNoType _ = Unit {0}
@@ -54,7 +59,7 @@ IsUnfit _ = ⊥
 abbrev pub HasNoForm : List ℕ → ℕ → Type 0
 HasNoForm name count = (i : Instr) → (form_of i).word ≡ name → length (form_of i).operands ≡ count → ⊥
 
--- this one has
+-- this one has them
 abbrev pub IsOfForm : List ℕ → ℕ → Instr → Type 0
 IsOfForm name count i = ((form_of i).word ≡ name) × (length (form_of i).operands ≡ count)
 
@@ -63,7 +68,7 @@ abbrev pub IsUnfitFor : Option (Option (List ℕ)) → List (List ℕ) → Type 
 IsUnfitFor None notes = ⊥
 IsUnfitFor (Some e) notes = entry_in notes ≡ None
 
--- no instruction is written so, or not with such annotations
+-- a node that no instruction is written as, whatever its parts are
 abbrev pub IsNoInstruction : Level → Type 0
 IsNoInstruction (body.Prim name notes args) =
     HasNoForm name (length args) ⊎ ((i : Instr) × IsOfForm name (length args) i × IsUnfitFor (form_of i).entry notes)
@@ -76,6 +81,7 @@ IsNoCode _ = Unit {0}
 
 -- ---- numbers
 
+-- not a numeral
 abbrev pub IsNoNumber : Level → Type 0
 IsNoNumber (body.Int z) = ⊥
 IsNoNumber _ = Unit {0}

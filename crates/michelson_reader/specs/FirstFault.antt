@@ -32,6 +32,7 @@ operand_role at before (AType t) = AsType
 operand_role at before (SomeData t v) = AsData before
 operand_role at before (ACode c) = AsCode
 
+-- each argument as what stands there in the form, behind an instruction at an offset; the node is what stands before them
 abbrev pub operand_parts : ℕ → Node → List (Operand Instr) → List Node → List Part
 operand_parts at before (o ∷ os) (x ∷ args) = (operand_role at before o, x) ∷ operand_parts at x os args
 operand_parts at before os args = []
@@ -51,6 +52,7 @@ abbrev pub AreOperands : Node → List Part → Level → Type 0
 AreOperands n ps (body.Prim name notes args) = (i : Instr) × IsOfForm name (length args) i × (ps ≡ operand_parts n.at n (form_of i).operands args)
 AreOperands n ps _ = ⊥
 
+-- the parts of a node in a role; a number and data are looked at as a whole
 abbrev pub ArePartsOf : Role → Node → List Part → Type 0
 ArePartsOf AsType n ps = ps ≡ parts_as AsType (nodes_in (out-Body n.body))
 ArePartsOf AsParameter n ps = ps ≡ parameter_parts (out-Body n.body)

@@ -1,5 +1,5 @@
 -- What the nodes that are printed are made of.
-use Rattle.std.specs.Prelude.{ℕ, List, [], ◌∷◌, codes, map}
+use Rattle.std.specs.Prelude.{ℕ, List, [], ◌∷◌, ◌++◌, codes, map}
 use Rattle.value_core.specs.declared.ty.Ty.{Ty}
 use Rattle.value_core.specs.declared.ty.Ty.TheOpen.{Ty-F}
 use Rattle.value_core.specs.declared.ty.Ty.TheViews.{out-Ty}
@@ -10,7 +10,7 @@ use Rattle.michelson_code.specs.declared.instr.Instr.{Instr}
 use Rattle.michelson_code.specs.declared.script.Side.{Side}
 use Rattle.data_nodes.specs.Nodes.{node}
 use Rattle.michelson_reader.specs.declared.parameter_nodes.EntryBelow.{EntryBelow}
-use Rattle.michelson_code.specs.Entries.{Entry}
+use Rattle.michelson_code.specs.Entries.{NamedEntry}
 use Rattle.michelson_code.specs.Forms.{Operand}
 use Rattle.michelson_code.specs.Levels.{operand_map}
 use Rattle.michelson_reader.specs.Printed.{PartNode, instruction_node, names_below, names_here, noted, operand_node, part_nodes, type_node}
@@ -18,7 +18,7 @@ use Rattle.michelson_reader.specs.Types.{word_and_parts}
 
 -- the annotation with a name
 abbrev pub note_of : List ℕ → List ℕ
-note_of name = 37 ∷ name
+note_of name = codes "%" ++ name
 
 -- ---- types
 
@@ -41,7 +41,7 @@ annotated notes t = node (body.Prim (type_word t) notes (type_parts t))
 -- ---- the parameter
 
 -- an entry, by the way that is left
-abbrev pub entry_of : EntryBelow → Entry
+abbrev pub entry_of : EntryBelow → NamedEntry
 entry_of e = (e.path.now, e.name.now)
 
 -- the annotations of the names that stand right there
@@ -49,7 +49,7 @@ abbrev pub notes_of : List EntryBelow → List (List ℕ)
 notes_of entries = map note_of (names_here (map entry_of entries))
 
 -- the names below a part
-abbrev pub below_of : Side → List EntryBelow → List Entry
+abbrev pub below_of : Side → List EntryBelow → List NamedEntry
 below_of side entries = names_below side (map entry_of entries)
 
 -- one level of a type, as it is, and with names from it on
@@ -60,7 +60,7 @@ part_level x = (
 )
 
 -- a part of the parameter with names from it on
-abbrev pub part_node : Ty → List Entry → Node
+abbrev pub part_node : Ty → List NamedEntry → Node
 part_node t = (fold-Ty PartNode part_level t).1
 
 -- ---- code

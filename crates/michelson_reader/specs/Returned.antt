@@ -1,5 +1,5 @@
 -- What a call returned, beside what is read from the left.
-use Rattle.std.specs.Prelude.{◌≡◌, ◌⊎◌, ℕ, Bool, true, false, List, [], ◌∷◌, ◌++◌, map, Option, Some, None, Result, Ok, Err}
+use Rattle.std.specs.Prelude.{◌≡◌, ℕ, Bool, true, false, List, [], ◌∷◌, ◌++◌, map, Option, Some, None, Ok, Err}
 use Rattle.std.specs.Option.{option_map}
 use Rattle.value_core.specs.declared.ty.Ty.{Ty}
 use Rattle.value_core.specs.declared.ty.Ty.TheVariants as type
@@ -11,18 +11,9 @@ use Rattle.michelson_reader.specs.declared.fault.ReadFault.TheVariants as fault
 use Rattle.michelson_reader.specs.declared.parameter.Parameter as held_parameter
 use Rattle.michelson_reader.specs.declared.script.Sections as held_sections
 use Rattle.michelson_reader.specs.CodeFaults.{Reader, code_read, instruction_read}
-use Rattle.michelson_code.specs.Entries.{Entry, Path}
+use Rattle.michelson_code.specs.Entries.{NamedEntry, Path}
 use Rattle.michelson_reader.specs.ScriptFaults.{Parameter, Sections, once, parameter_read}
 use Rattle.michelson_reader.specs.TypeFaults.{Read, then_read, type_read}
-
--- the fault is the first one, unless memory ran out
-abbrev pub Refuses : {A : Type 0} → Read A → ReadFault → Type 0
-Refuses r e = (e ≡ fault.NoMemory) ⊎ (r ≡ Err e)
-
--- what is read, or the first fault
-abbrev pub Answers : {A B : Type 0} → (A → B) → Read B → Result A ReadFault → Type 0
-Answers view r (Ok x) = r ≡ Ok (view x)
-Answers view r (Err e) = Refuses r e
 
 -- what is read of each, or the first fault
 abbrev pub each : {A : Type 0} → List (Read A) → Read (List A)
@@ -41,12 +32,12 @@ read_of n = record { node = n; instruction = instruction_read n; code = code_rea
 -- ---- the parameter and the sections
 
 -- names by the way from the root, where the way to their part is known
-abbrev pub below_way : Path → List Entry → List Entry
+abbrev pub below_way : Path → List NamedEntry → List NamedEntry
 below_way way = map (λ e. (way ++ e.0, e.1))
 
 -- a part of the parameter was read, and its names stand behind those before
-abbrev pub IsPart : Node → Path → List Entry → Ty → List Entry → Type 0
-IsPart n way before t after = (names : List Entry) × (parameter_read n ≡ Ok (t, names)) × (after ≡ before ++ below_way way names)
+abbrev pub IsReadBehind : Node → Path → List NamedEntry → Ty → List NamedEntry → Type 0
+IsReadBehind n way before t after = (names : List NamedEntry) × (parameter_read n ≡ Ok (t, names)) × (after ≡ before ++ below_way way names)
 
 -- none, or one name
 abbrev pub as_names : Option (List ℕ) → List (List ℕ)
@@ -59,6 +50,7 @@ only_argument at true args = Err (fault.Sections at)
 only_argument at false (x ∷ []) = Ok x
 only_argument at false _ = Err (fault.Arity at)
 
+-- the type and the names that are held
 abbrev pub as_parameter : held_parameter.Parameter → Parameter
 as_parameter p = (p.ty, p.names)
 
@@ -75,8 +67,10 @@ of_text f = fault.Text f
 abbrev pub parameter_section : ℕ → List Node → Sections → Read Sections
 parameter_section at args s = then_read (once at s.parameter args parameter_read) (λ p. Ok (record s { parameter = Some p }))
 
+-- the storage, where none stood before
 abbrev pub storage_section : ℕ → List Node → Sections → Read Sections
 storage_section at args s = then_read (once at s.storage args type_read) (λ t. Ok (record s { storage = Some t }))
 
+-- the code, where none stood before
 abbrev pub code_section : ℕ → List Node → Sections → Read Sections
 code_section at args s = then_read (once at s.code args code_read) (λ c. Ok (record s { code = Some c }))

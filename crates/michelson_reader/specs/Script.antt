@@ -10,7 +10,7 @@ use Rattle.micheline_text.specs.declared.node.Body.TheViews.{out-Body}
 use Rattle.micheline_text.specs.Text.{IsTextOf}
 use Rattle.michelson_code.specs.declared.script.Script.{Script}
 use Rattle.michelson_reader.specs.Code.{is_code}
-use Rattle.michelson_code.specs.Entries.{Entry}
+use Rattle.michelson_code.specs.Entries.{NamedEntry}
 use Rattle.michelson_reader.specs.Entries.{entries_of}
 use Rattle.michelson_reader.specs.Types.{is_type}
 
@@ -19,7 +19,7 @@ abbrev pub IsSection : List ℕ → (Node → Type 0) → Node → Type 0
 IsSection name Holds n = (notes : List (List ℕ)) × (x : Node) × (n.body ≡ variant.Prim name notes (x ∷ [])) × Holds x
 
 -- the type of the parameter, with the names of its entries
-abbrev pub IsParameter : Ty → List Entry → Node → Type 0
+abbrev pub IsParameter : Ty → List NamedEntry → Node → Type 0
 IsParameter t names n = IsTrue (is_type t n) × (entries_of n ≡ Some names)
 
 -- three nodes, in any order
@@ -38,6 +38,7 @@ pub record AreSections (ns : List Node) (s : Script) : Type 0 where
   pub is_storage : IsSection (codes "storage") (λ x. IsTrue (is_type s.storage x)) storage
   pub has_code : IsSection (codes "code") (λ x. IsTrue (is_code s.code x)) code
 
+-- the nodes inside, where the only node is a pair of braces
 abbrev unbraced_body : List Node → Body-F Body Node → List Node
 unbraced_body ns (body.Seq inner) = inner
 unbraced_body ns _ = ns

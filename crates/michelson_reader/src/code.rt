@@ -2,10 +2,14 @@
 
 ghost use Rattle.std.specs.Prelude.{◌≡◌, map};
 ghost use Rattle.michelson_reader.specs.CodeFaults.{alone, applied, code_read, instruction_read, number, with_one, with_two};
-ghost use Rattle.michelson_reader.specs.Operands.{bodies_form, body_form, contract_read, dip_read, empty_map_read, number_form, push_read, type_form};
-ghost use Rattle.michelson_reader.specs.Returned.{Answers, each, read_of};
+ghost use Rattle.michelson_reader.specs.Operands.{bodies_form, body_form, contract_read, dip_read, empty_map_read, formed, number_form, push_read, type_form};
+ghost use Rattle.micheline_text.specs.Told.{AnswersUnlessFull};
+ghost use Rattle.michelson_reader.specs.Answers.{read_fault};
+ghost use Rattle.michelson_reader.specs.Returned.{each, read_of};
 
-use crate::code_words::{OfBody, OfNumber, OfTwoBodies, OfType};
+use crate::code_words::{
+    takes_body, takes_two_bodies, takes_type, with_body, with_number, with_two_bodies, with_type,
+};
 use crate::entries::entry;
 use crate::fault::ReadFault;
 use crate::plain_forms::plain_form;
@@ -20,7 +24,7 @@ use std::alloc::Global;
 /// The code that a node is written for: instructions in braces.
 #[cycle(reading_code)]
 pub(crate) fn read_code(alloc: Global, n: &Node) -> Result<Code, ReadFault>
-    ensures { Answers (λ c. c) (code_read n.now) result }
+    ensures { AnswersUnlessFull read_fault (λ c. c) result (code_read n.now) }
 {
     let at = n.at as usize;
     match &n.body {
@@ -32,7 +36,7 @@ pub(crate) fn read_code(alloc: Global, n: &Node) -> Result<Code, ReadFault>
 
 #[cycle(reading_code)]
 fn in_order(alloc: Global, nodes: &[Node]) -> Result<Code, ReadFault>
-    ensures { Answers (λ c. c) (each (map instruction_read nodes.now)) result }
+    ensures { AnswersUnlessFull read_fault (λ c. c) result (each (map instruction_read nodes.now)) }
 {
     let mut code = Items::new(alloc);
     for node in nodes {
@@ -43,7 +47,7 @@ fn in_order(alloc: Global, nodes: &[Node]) -> Result<Code, ReadFault>
 
 #[cycle(reading_code)]
 fn instruction(alloc: Global, n: &Node) -> Result<Instr, ReadFault>
-    ensures { Answers (λ i. i) (instruction_read n.now) result }
+    ensures { AnswersUnlessFull read_fault (λ i. i) result (instruction_read n.now) }
 {
     let at = n.at as usize;
     match &n.body {
@@ -63,7 +67,8 @@ fn applied(
     notes: &[Items<u8>],
     args: &[Node],
 ) -> Result<Instr, ReadFault>
-    ensures { Answers (λ i. i) (applied at name.now notes.now (map read_of args.now)) result }
+    ensures { AnswersUnlessFull read_fault (λ i. i) result
+        (applied at name.now notes.now (map read_of args.now)) }
 {
     match args {
         [] => alone(alloc, at, name, notes),
@@ -74,7 +79,7 @@ fn applied(
 }
 
 fn alone(alloc: Global, at: usize, name: &[u8], notes: &[Items<u8>]) -> Result<Instr, ReadFault>
-    ensures { Answers (λ i. i) (alone at name.now notes.now) result }
+    ensures { AnswersUnlessFull read_fault (λ i. i) result (alone at name.now notes.now) }
 {
     if is_word(name, "SELF") {
         return Ok(Instr::SelfEntry(entry(at, notes)?));
@@ -93,19 +98,20 @@ fn with_one(
     notes: &[Items<u8>],
     operand: &Node,
 ) -> Result<Instr, ReadFault>
-    ensures { Answers (λ i. i) (with_one at name.now notes.now (read_of operand.now)) result }
+    ensures { AnswersUnlessFull read_fault (λ i. i) result
+        (with_one at name.now notes.now (read_of operand.now)) }
 {
     if is_word(name, "CONTRACT") {
         return contract(alloc, at, notes, operand);
     }
-    if let Some(form) = OfNumber::named(name) {
-        return with_number(alloc, at, form, operand);
+    if let Some((least, _)) = with_number(name, 0) {
+        return number_form(alloc, at, name, least, operand);
     }
-    if let Some(form) = OfType::named(name) {
-        return with_type(alloc, form, operand);
+    if takes_type(name) {
+        return type_form(alloc, at, name, operand);
     }
-    if let Some(form) = OfBody::named(name) {
-        return with_body(alloc, form, operand);
+    if takes_body(alloc, name) {
+        return body_form(alloc, at, name, operand);
     }
     Err(no_form(alloc, at, name))
 }
@@ -116,29 +122,53 @@ fn contract(
     notes: &[Items<u8>],
     operand: &Node,
 ) -> Result<Instr, ReadFault>
-    ensures { Answers (λ i. i) (contract_read at notes.now operand.now) result }
+    ensures { AnswersUnlessFull read_fault (λ i. i) result
+        (contract_read at notes.now operand.now) }
 {
     let entry = entry(at, notes)?;
     Ok(Instr::Contract(entry, read_type(alloc, operand)?))
 }
 
-fn with_number(alloc: Global, at: usize, form: OfNumber, n: &Node) -> Result<Instr, ReadFault>
-    ensures { Answers (λ i. i) (number_form at form n.now) result }
+/// The instruction of a word, or that the word has no such form.
+fn formed(alloc: Global, at: usize, name: &[u8], instr: Option<Instr>) -> Result<Instr, ReadFault>
+    ensures { AnswersUnlessFull read_fault (λ i. i) result (formed at name.now instr) }
 {
-    Ok(form.of(number(alloc, at, form.least(), n)?))
+    match instr {
+        Some(instr) => Ok(instr),
+        None => Err(no_form(alloc, at, name)),
+    }
 }
 
-fn with_type(alloc: Global, form: OfType, operand: &Node) -> Result<Instr, ReadFault>
-    ensures { Answers (λ i. i) (type_form form operand.now) result }
+fn number_form(
+    alloc: Global,
+    at: usize,
+    name: &[u8],
+    least: u32,
+    operand: &Node,
+) -> Result<Instr, ReadFault>
+    ensures { AnswersUnlessFull read_fault (λ i. i) result
+        (number_form at name.now least operand.now) }
 {
-    Ok(form.of(read_type(alloc, operand)?))
+    let n = number(alloc, at, least, operand)?;
+    match with_number(name, n) {
+        Some((_, instr)) => Ok(instr),
+        None => Err(no_form(alloc, at, name)),
+    }
+}
+
+fn type_form(alloc: Global, at: usize, name: &[u8], operand: &Node) -> Result<Instr, ReadFault>
+    ensures { AnswersUnlessFull read_fault (λ i. i) result (type_form at name.now operand.now) }
+{
+    let t = read_type(alloc, operand)?;
+    formed(alloc, at, name, with_type(name, t))
 }
 
 #[cycle(reading_code)]
-fn with_body(alloc: Global, form: OfBody, operand: &Node) -> Result<Instr, ReadFault>
-    ensures { Answers (λ i. i) (body_form form operand.now) result }
+fn body_form(alloc: Global, at: usize, name: &[u8], operand: &Node) -> Result<Instr, ReadFault>
+    ensures { AnswersUnlessFull read_fault (λ i. i) result (body_form at name.now operand.now) }
 {
-    Ok(form.of(read_code(alloc, operand)?))
+    let body = read_code(alloc, operand)?;
+    formed(alloc, at, name, with_body(name, body))
 }
 
 #[cycle(reading_code)]
@@ -149,8 +179,8 @@ fn with_two(
     first: &Node,
     second: &Node,
 ) -> Result<Instr, ReadFault>
-    ensures { Answers (λ i. i)
-        (with_two at name.now (read_of first.now) (read_of second.now)) result }
+    ensures { AnswersUnlessFull read_fault (λ i. i) result
+        (with_two at name.now (read_of first.now) (read_of second.now)) }
 {
     if is_word(name, "PUSH") {
         return push(alloc, first, second);
@@ -161,14 +191,14 @@ fn with_two(
     if is_word(name, "DIP") {
         return dip(alloc, at, first, second);
     }
-    if let Some(form) = OfTwoBodies::named(name) {
-        return with_two_bodies(alloc, form, first, second);
+    if takes_two_bodies(alloc, name) {
+        return bodies_form(alloc, at, name, first, second);
     }
     Err(no_form(alloc, at, name))
 }
 
 fn push(alloc: Global, first: &Node, second: &Node) -> Result<Instr, ReadFault>
-    ensures { Answers (λ i. i) (push_read first.now second.now) result }
+    ensures { AnswersUnlessFull read_fault (λ i. i) result (push_read first.now second.now) }
 {
     let t = read_type(alloc, first)?;
     let v = pushed(alloc, &t, second)?;
@@ -176,7 +206,7 @@ fn push(alloc: Global, first: &Node, second: &Node) -> Result<Instr, ReadFault>
 }
 
 fn empty_map(alloc: Global, first: &Node, second: &Node) -> Result<Instr, ReadFault>
-    ensures { Answers (λ i. i) (empty_map_read first.now second.now) result }
+    ensures { AnswersUnlessFull read_fault (λ i. i) result (empty_map_read first.now second.now) }
 {
     let k = read_type(alloc, first)?;
     Ok(Instr::EmptyMap(k, read_type(alloc, second)?))
@@ -184,29 +214,32 @@ fn empty_map(alloc: Global, first: &Node, second: &Node) -> Result<Instr, ReadFa
 
 #[cycle(reading_code)]
 fn dip(alloc: Global, at: usize, first: &Node, second: &Node) -> Result<Instr, ReadFault>
-    ensures { Answers (λ i. i) (dip_read at first.now second.now) result }
+    ensures { AnswersUnlessFull read_fault (λ i. i) result (dip_read at first.now second.now) }
 {
     let n = number(alloc, at, 0, first)?;
     Ok(Instr::DipN(n, read_code(alloc, second)?))
 }
 
 #[cycle(reading_code)]
-fn with_two_bodies(
+fn bodies_form(
     alloc: Global,
-    form: OfTwoBodies,
+    at: usize,
+    name: &[u8],
     first: &Node,
     second: &Node,
 ) -> Result<Instr, ReadFault>
-    ensures { Answers (λ i. i) (bodies_form form first.now second.now) result }
+    ensures { AnswersUnlessFull read_fault (λ i. i) result
+        (bodies_form at name.now first.now second.now) }
 {
     let body = read_code(alloc, first)?;
-    Ok(form.of(body, read_code(alloc, second)?))
+    let other = read_code(alloc, second)?;
+    formed(alloc, at, name, with_two_bodies(name, body, other))
 }
 
 /// A number from `least` to 65,535. Out of range it is told at the instruction, and at itself
 /// where it is no number.
 fn number(alloc: Global, at: usize, least: u32, n: &Node) -> Result<u32, ReadFault>
-    ensures { Answers (λ n. n) (number at least n.now) result }
+    ensures { AnswersUnlessFull read_fault (λ n. n) result (number at least n.now) }
 {
     let place = n.at as usize;
     match &n.body {

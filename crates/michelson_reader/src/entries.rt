@@ -4,7 +4,9 @@ ghost use Rattle.std.specs.Prelude.{◌≡◌};
 ghost use Rattle.std.specs.Option.{option_copied};
 ghost use Rattle.michelson_reader.specs.CodeFaults.{entry};
 ghost use Rattle.michelson_reader.specs.Entries.{entry_in, name_in};
-ghost use Rattle.michelson_reader.specs.Returned.{Answers, as_names};
+ghost use Rattle.micheline_text.specs.Told.{AnswersUnlessFull};
+ghost use Rattle.michelson_reader.specs.Answers.{read_fault};
+ghost use Rattle.michelson_reader.specs.Returned.{as_names};
 
 use crate::fault::ReadFault;
 use sqlite_items::Items;
@@ -39,7 +41,7 @@ fn name_in(note: &[u8]) -> Option<&[u8]>
 
 /// The name of an entry for the instruction at this offset, or that there is none.
 pub(crate) fn entry(at: usize, notes: &[Items<u8>]) -> Result<Option<Name>, ReadFault>
-    ensures { Answers (λ e. e) (entry at notes.now) result }
+    ensures { AnswersUnlessFull read_fault (λ e. e) result (entry at notes.now) }
 {
     entry_in(notes).ok_or(ReadFault::Arity(at))
 }

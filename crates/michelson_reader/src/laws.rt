@@ -10,7 +10,9 @@ ghost use Rattle.michelson_reader.specs.Answers.{IsReadFault};
 ghost use Rattle.michelson_reader.specs.declared.fault.ReadFault.{ReadFault};
 ghost use Rattle.michelson_reader.specs.declared.fault.ReadFault.TheVariants.{NoMemory};
 ghost use Rattle.michelson_reader.specs.CodeFaults.{code_read, instruction_read};
+ghost use Rattle.michelson_reader.specs.FaultyNodes.{IsKnownWord};
 ghost use Rattle.michelson_reader.specs.FirstFault.{IsFirstFault, IsScriptFault, StandsInScript};
+ghost use Rattle.michelson_reader.specs.Names.{is_known};
 ghost use Rattle.michelson_reader.specs.Printed.{script_text};
 ghost use Rattle.michelson_reader.specs.Roles.{AsCode, AsInstruction, AsType};
 ghost use Rattle.michelson_reader.specs.Script.{AreSections, IsScriptOf, unbraced};
@@ -44,6 +46,11 @@ pub fn two_scripts_never_share_a_text()
         IsTrue (is_lawful_script s) → IsTrue (is_lawful_script t) →
         IsPrintableScript s → IsPrintableScript t →
         script_text s ≡ script_text t → s ≡ t }
+{}
+
+/// A word is known exactly where a type or an instruction is written with it.
+pub fn a_word_is_known_by_the_tables()
+    ensures { (name : List ℕ) → IsTrue (is_known name) ↔ IsKnownWord name }
 {}
 
 /// What a reader from the left comes upon is the fault that stands before all others: in a node that

@@ -46,7 +46,7 @@ mod words;
 pub use data_nodes::{DataFault, DataKind, DataRefusal, print_data, read_data, read_storage};
 pub use fault::ReadFault;
 pub use laws::{
-    a_text_spells_one_script, bytes_are_a_script_or_have_one_fault,
+    a_text_spells_one_script, a_word_is_known_by_the_tables, bytes_are_a_script_or_have_one_fault,
     the_first_fault_of_a_script_is_told, two_scripts_never_share_a_text,
 };
 pub use printer::print_script;

@@ -3,7 +3,9 @@
 ghost use Rattle.std.specs.Prelude.{◌≡◌, ◌&&◌, ◌++◌, ◌∷◌, [], codes, length, nat_eq, IfErr, IfOk};
 ghost use Rattle.std.specs.Str.{bytes_eq};
 ghost use Rattle.michelson_reader.specs.Entries.{own};
-ghost use Rattle.michelson_reader.specs.Returned.{Answers, IsPart, Refuses, below_way};
+ghost use Rattle.micheline_text.specs.Told.{AnswersUnlessFull, IsTold};
+ghost use Rattle.michelson_reader.specs.Answers.{read_fault};
+ghost use Rattle.michelson_reader.specs.Returned.{IsReadBehind, below_way};
 ghost use Rattle.michelson_reader.specs.ScriptFaults.{parameter_read};
 
 use crate::entries::entry_in;
@@ -36,7 +38,7 @@ struct Place {
 
 /// The parameter that a node is written for.
 pub(crate) fn read_parameter(alloc: Global, n: &Node) -> Result<Parameter, ReadFault>
-    ensures { Answers (λ p. (p.ty, p.names)) (parameter_read n.now) result }
+    ensures { AnswersUnlessFull read_fault (λ p. (p.ty, p.names)) result (parameter_read n.now) }
 {
     let mut place = Place {
         way: Items::new(alloc),
@@ -51,9 +53,9 @@ pub(crate) fn read_parameter(alloc: Global, n: &Node) -> Result<Parameter, ReadF
 #[cycle(reading_parameters)]
 fn part(alloc: Global, n: &Node, place: &mut Place) -> Result<Ty, ReadFault>
     ensures read { IfOk result (λ t.
-        IsPart n.now place.old.way place.old.names t place.new.names) }
+        IsReadBehind n.now place.old.way place.old.names t place.new.names) }
     ensures way { IfOk result (λ t. place.new.way ≡ place.old.way) }
-    ensures fault { IfErr result (Refuses (parameter_read n.now)) }
+    ensures fault { IfErr result (λ e. IsTold (read_fault e) (parameter_read n.now)) }
 {
     let Body::Prim { name, notes, args } = &n.body else {
         return read_type(alloc, n);
@@ -82,9 +84,9 @@ fn is_or(name: &[u8], args: &[Node]) -> bool
 #[cycle(reading_parameters)]
 fn side(alloc: Global, side: Side, n: &Node, place: &mut Place) -> Result<Ty, ReadFault>
     ensures read { IfOk result (λ t.
-        IsPart n.now (place.old.way ++ side ∷ []) place.old.names t place.new.names) }
+        IsReadBehind n.now (place.old.way ++ side ∷ []) place.old.names t place.new.names) }
     ensures way { IfOk result (λ t. place.new.way ≡ place.old.way) }
-    ensures fault { IfErr result (Refuses (parameter_read n.now)) }
+    ensures fault { IfErr result (λ e. IsTold (read_fault e) (parameter_read n.now)) }
 {
     place.way.push(side)?;
     let t = part(alloc, n, place)?;

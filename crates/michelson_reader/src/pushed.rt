@@ -3,7 +3,8 @@
 ghost use Rattle.std.specs.Prelude.{◌≡◌, map};
 ghost use Rattle.std.specs.Option.{option_map};
 ghost use Rattle.michelson_reader.specs.CodeFaults.{data_fault, first_found, left_out_in, pushed};
-ghost use Rattle.michelson_reader.specs.Returned.{Answers, Refuses};
+ghost use Rattle.micheline_text.specs.Told.{AnswersUnlessFull, IsTold};
+ghost use Rattle.michelson_reader.specs.Answers.{read_fault};
 
 use crate::fault::ReadFault;
 use crate::words::{is_left_out, left_out_fault};
@@ -21,7 +22,7 @@ struct LeftOut<'a> {
 
 /// The value of the type that a node is written for.
 pub(crate) fn pushed(alloc: Global, t: &Ty, n: &Node) -> Result<Val, ReadFault>
-    ensures { Answers (λ v. v) (pushed t.now n.now) result }
+    ensures { AnswersUnlessFull read_fault (λ v. v) result (pushed t.now n.now) }
 {
     match read_data(alloc, t, n) {
         Ok(v) => Ok(v),
@@ -32,7 +33,7 @@ pub(crate) fn pushed(alloc: Global, t: &Ty, n: &Node) -> Result<Val, ReadFault>
 
 /// A word that is left out is told before what is wrong with the data there or behind it.
 fn data_fault(alloc: Global, fault: DataFault, n: &Node) -> ReadFault
-    ensures { Refuses {A = Unit {0}} (data_fault fault (left_out_in n.now)) result }
+    ensures { IsTold {Y = Unit {0}} (read_fault result) (data_fault fault (left_out_in n.now)) }
 {
     match left_out_in(n) {
         Some(found) if found.at <= fault.at => left_out_fault(alloc, found.at, found.word),

@@ -1,11 +1,12 @@
 //! Scripts, read from texts.
 
-ghost use Rattle.std.specs.Prelude.{◌≡◌, ◌^◌, ◌<◌, length, IfErr, IfOk};
+ghost use Rattle.std.specs.Prelude.{◌≡◌, ◌^◌, ◌<◌, length, IfErr, IfOk, Ok};
 ghost use Rattle.std.specs.Option.{option_map};
 ghost use Rattle.micheline_text.specs.declared.node.Body.TheViews.{out-Body};
 ghost use Rattle.michelson_code.specs.declared.script.Script as declared;
-ghost use Rattle.michelson_reader.specs.Answers.{Gives, IsReadFault};
-ghost use Rattle.michelson_reader.specs.Returned.{Answers, code_section, only_argument, parameter_section, shown, storage_section};
+ghost use Rattle.micheline_text.specs.Told.{AnswersUnlessFull};
+ghost use Rattle.michelson_reader.specs.Answers.{IsReadFault, read_fault};
+ghost use Rattle.michelson_reader.specs.Returned.{code_section, only_argument, parameter_section, shown, storage_section};
 ghost use Rattle.michelson_reader.specs.Script.{IsScriptOf, unbraced};
 ghost use Rattle.michelson_reader.specs.ScriptFaults.{all_three, script_read, section, section_body};
 
@@ -30,8 +31,8 @@ struct Sections {
 impl Sections {
     /// One more section, which a node is.
     fn add(&mut self, alloc: Global, n: &Node) -> Result<(), ReadFault>
-        ensures { Answers (λ u. shown self.new)
-            (section_body n.now.at (out-Body n.now.body) (shown self.old)) result }
+        ensures { AnswersUnlessFull read_fault (λ u. shown self.new) result
+            (section_body n.now.at (out-Body n.now.body) (shown self.old)) }
     {
         let at = n.at as usize;
         match &n.body {
@@ -49,8 +50,8 @@ impl Sections {
         name: &[u8],
         args: &[Node],
     ) -> Result<(), ReadFault>
-        ensures { Answers (λ u. shown self.new)
-            (section at name.now args.now (shown self.old)) result }
+        ensures { AnswersUnlessFull read_fault (λ u. shown self.new) result
+            (section at name.now args.now (shown self.old)) }
     {
         if is_word(name, "parameter") {
             self.add_parameter(alloc, at, args)
@@ -64,8 +65,8 @@ impl Sections {
     }
 
     fn add_parameter(&mut self, alloc: Global, at: usize, args: &[Node]) -> Result<(), ReadFault>
-        ensures { Answers (λ u. shown self.new)
-            (parameter_section at args.now (shown self.old)) result }
+        ensures { AnswersUnlessFull read_fault (λ u. shown self.new) result
+            (parameter_section at args.now (shown self.old)) }
     {
         let argument = only_argument(at, self.parameter.is_some(), args)?;
         self.parameter = Some(read_parameter(alloc, argument)?);
@@ -73,8 +74,8 @@ impl Sections {
     }
 
     fn add_storage(&mut self, alloc: Global, at: usize, args: &[Node]) -> Result<(), ReadFault>
-        ensures { Answers (λ u. shown self.new)
-            (storage_section at args.now (shown self.old)) result }
+        ensures { AnswersUnlessFull read_fault (λ u. shown self.new) result
+            (storage_section at args.now (shown self.old)) }
     {
         let argument = only_argument(at, self.storage.is_some(), args)?;
         self.storage = Some(read_type(alloc, argument)?);
@@ -82,8 +83,8 @@ impl Sections {
     }
 
     fn add_code(&mut self, alloc: Global, at: usize, args: &[Node]) -> Result<(), ReadFault>
-        ensures { Answers (λ u. shown self.new)
-            (code_section at args.now (shown self.old)) result }
+        ensures { AnswersUnlessFull read_fault (λ u. shown self.new) result
+            (code_section at args.now (shown self.old)) }
     {
         let argument = only_argument(at, self.code.is_some(), args)?;
         self.code = Some(read_code(alloc, argument)?);
@@ -92,8 +93,8 @@ impl Sections {
 
     /// The script, if each section stood; what is missing is told at the text's end.
     fn script(self, end: usize) -> Result<Script, ReadFault>
-        ensures { Answers (λ s. s)
-            (all_three end (shown self).parameter (shown self).storage (shown self).code) result }
+        ensures { AnswersUnlessFull read_fault (λ s. s) result
+            (all_three end (shown self).parameter (shown self).storage (shown self).code) }
     {
         let Sections {
             parameter,
@@ -115,7 +116,8 @@ impl Sections {
 
 /// The one argument of a section that didn't stand before.
 fn only_argument(at: usize, repeated: bool, args: &[Node]) -> Result<&Node, ReadFault>
-    ensures { Answers (λ n. n.now) (only_argument at repeated args.now) result }
+    ensures { AnswersUnlessFull read_fault (λ n. n.now) result
+        (only_argument at repeated args.now) }
 {
     if repeated {
         return Err(ReadFault::Sections(at));
@@ -141,7 +143,7 @@ fn unbraced(nodes: &[Node]) -> &[Node]
 
 /// The script that nodes are, where their text ends there.
 fn script_of(alloc: Global, end: usize, nodes: &[Node]) -> Result<Script, ReadFault>
-    ensures { Answers (λ s. s) (script_read end nodes.now) result }
+    ensures { AnswersUnlessFull read_fault (λ s. s) result (script_read end nodes.now) }
 {
     let mut sections = Sections {
         parameter: None,
@@ -161,7 +163,8 @@ pub fn read_script(alloc: Global, b: &[u8]) -> Result<Script, ReadFault>
     // What is read is a text of the script.
     ensures found { IfOk result (λ s. IsScriptOf b.now s) }
     // A text of a script is read, unless memory runs out.
-    ensures only { (s : declared.Script) → IsScriptOf b.now s → Gives s result }
+    ensures only { (s : declared.Script) → IsScriptOf b.now s →
+        AnswersUnlessFull read_fault (λ s. s) result (Ok s) }
     // A fault is one of the text, or else the first one of its nodes.
     ensures fault { IfErr result (IsReadFault b.now) }
 {

@@ -1,10 +1,11 @@
 //! A type by itself: read from a node, and printed.
 
-ghost use Rattle.std.specs.Prelude.{◌≡◌, ◌≤◌, ◌⊎◌, IfErr, IfOk, IsTrue};
+ghost use Rattle.std.specs.Prelude.{◌≡◌, ◌≤◌, ◌⊎◌, Ok, IfErr, IfOk, IsTrue};
 ghost use Rattle.value_core.specs.declared.ty.Ty as declared;
 ghost use Rattle.value_core.specs.Depth.{depth_of_type};
 ghost use Rattle.micheline_text.specs.Printed.{printed};
-ghost use Rattle.michelson_reader.specs.Answers.{Gives};
+ghost use Rattle.micheline_text.specs.Told.{AnswersUnlessFull};
+ghost use Rattle.michelson_reader.specs.Answers.{read_fault};
 ghost use Rattle.michelson_reader.specs.FirstFault.{IsFirstFault};
 ghost use Rattle.michelson_reader.specs.Printed.{type_node};
 ghost use Rattle.michelson_reader.specs.Roles.{AsType};
@@ -23,7 +24,8 @@ pub fn read_type(alloc: Global, n: &Node) -> Result<Ty, ReadFault>
     // What is read is the type that the node is written for.
     ensures found { IfOk result (λ t. IsTrue (is_type t n.now)) }
     // A node that is written for a type is read, unless memory runs out.
-    ensures only { (t : declared.Ty) → IsTrue (is_type t n.now) → Gives t result }
+    ensures only { (t : declared.Ty) → IsTrue (is_type t n.now) →
+        AnswersUnlessFull read_fault (λ t. t) result (Ok t) }
     // A fault is the first one in the node.
     ensures fault { IfErr result (λ f. (f ≡ NoMemory) ⊎ IsFirstFault AsType n.now f) }
 {

@@ -101,7 +101,8 @@ impl TypeOfTwo {
 }
 
 pub(crate) fn is_type_word(name: &[u8]) -> bool
-    ensures { result ≡ (is_in name.now plain_types || is_in name.now types_of_one || is_in name.now types_of_two) }
+    ensures { result ≡ (is_in name.now plain_types
+        || is_in name.now types_of_one || is_in name.now types_of_two) }
 {
     plain_type(name).is_some()
         || TypeOfOne::named(name).is_some()

@@ -1,7 +1,9 @@
 //! Types, read from nodes.
 
 ghost use Rattle.std.specs.Prelude.{◌≡◌, drop, map, IfOk};
-ghost use Rattle.michelson_reader.specs.Returned.{Answers, each, nested};
+ghost use Rattle.micheline_text.specs.Told.{AnswersUnlessFull};
+ghost use Rattle.michelson_reader.specs.Answers.{read_fault};
+ghost use Rattle.michelson_reader.specs.Returned.{each, nested};
 ghost use Rattle.michelson_reader.specs.TypeFaults.{applied, type_read};
 
 use crate::fault::ReadFault;
@@ -15,7 +17,7 @@ use value_core::{NoMemory, Ty};
 /// The type that a node is written for; its annotations say nothing.
 #[cycle(reading_types)]
 pub(crate) fn read_type(alloc: Global, n: &Node) -> Result<Ty, ReadFault>
-    ensures { Answers (λ t. t) (type_read n.now) result }
+    ensures { AnswersUnlessFull read_fault (λ t. t) result (type_read n.now) }
 {
     let at = n.at as usize;
     match &n.body {
@@ -26,7 +28,8 @@ pub(crate) fn read_type(alloc: Global, n: &Node) -> Result<Ty, ReadFault>
 
 #[cycle(reading_types)]
 fn applied(alloc: Global, at: usize, name: &[u8], args: &[Node]) -> Result<Ty, ReadFault>
-    ensures { Answers (λ t. t) (applied at name.now (map type_read args.now)) result }
+    ensures { AnswersUnlessFull read_fault (λ t. t) result
+        (applied at name.now (map type_read args.now)) }
 {
     match args {
         [] => match plain_type(name) {
@@ -57,7 +60,8 @@ fn applied(alloc: Global, at: usize, name: &[u8], args: &[Node]) -> Result<Ty, R
 /// The types of all nodes but the first.
 #[cycle(reading_types)]
 fn read_others(alloc: Global, nodes: &[Node]) -> Result<Items<Ty>, ReadFault>
-    ensures { Answers (λ ts. ts) (each (map type_read (drop 1 nodes.now))) result }
+    ensures { AnswersUnlessFull read_fault (λ ts. ts) result
+        (each (map type_read (drop 1 nodes.now))) }
 {
     let mut types = Items::new(alloc);
     for i in 1..nodes.len() {

@@ -4,7 +4,8 @@ ghost use Rattle.std.specs.Prelude.{◌≡◌, Err};
 ghost use Rattle.std.specs.Str.{bytes_eq};
 ghost use Rattle.michelson_reader.specs.declared.fault.ReadFault.TheVariants.{LeftOut};
 ghost use Rattle.michelson_reader.specs.Names.{is_known, is_left_out};
-ghost use Rattle.michelson_reader.specs.Returned.{Refuses};
+ghost use Rattle.micheline_text.specs.Told.{IsTold};
+ghost use Rattle.michelson_reader.specs.Answers.{read_fault};
 ghost use Rattle.michelson_reader.specs.TypeFaults.{no_form};
 
 use crate::code_words::is_code_word;
@@ -42,17 +43,17 @@ pub(crate) fn is_left_out(name: &[u8]) -> bool
 }
 
 /// Whether it is a word of a type or of an instruction.
-fn is_known(name: &[u8]) -> bool
+fn is_known(alloc: Global, name: &[u8]) -> bool
     ensures { result ≡ is_known name.now }
 {
-    is_type_word(name) || is_code_word(name)
+    is_type_word(name) || is_code_word(alloc, name)
 }
 
 /// What is told of a word that can't stand there, or not with so many arguments.
 pub(crate) fn no_form(alloc: Global, at: usize, name: &[u8]) -> ReadFault
-    ensures { Refuses {A = Unit {0}} (no_form at name.now) result }
+    ensures { IsTold {Y = Unit {0}} (read_fault result) (no_form at name.now) }
 {
-    if is_known(name) {
+    if is_known(alloc, name) {
         ReadFault::Arity(at)
     } else if is_left_out(name) {
         left_out_fault(alloc, at, name)
@@ -63,7 +64,7 @@ pub(crate) fn no_form(alloc: Global, at: usize, name: &[u8]) -> ReadFault
 
 /// The fault of a word that is left out.
 pub(crate) fn left_out_fault(alloc: Global, at: usize, name: &[u8]) -> ReadFault
-    ensures { Refuses {A = Unit {0}} (Err (LeftOut at name.now)) result }
+    ensures { IsTold {Y = Unit {0}} (read_fault result) (Err (LeftOut at name.now)) }
 {
     match Items::from_slice(alloc, name) {
         Ok(word) => ReadFault::LeftOut(at, word),

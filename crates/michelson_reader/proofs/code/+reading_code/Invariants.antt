@@ -21,8 +21,8 @@ decreases-applied l = 8 * goal.size-applied l + 6
 abbrev pub decreases-with_one : goal.decreases-with_one
 decreases-with_one l = 8 * size-Node l.operand.now + 5
 
-abbrev pub decreases-with_body : goal.decreases-with_body
-decreases-with_body l = 8 * size-Node l.operand.now + 4
+abbrev pub decreases-body_form : goal.decreases-body_form
+decreases-body_form l = 8 * size-Node l.operand.now + 4
 
 abbrev pub decreases-with_two : goal.decreases-with_two
 decreases-with_two l = 8 * max (size-Node l.first.now) (size-Node l.second.now) + 5
@@ -30,8 +30,8 @@ decreases-with_two l = 8 * max (size-Node l.first.now) (size-Node l.second.now) 
 abbrev pub decreases-dip : goal.decreases-dip
 decreases-dip l = 8 * size-Node l.second.now + 4
 
-abbrev pub decreases-with_two_bodies : goal.decreases-with_two_bodies
-decreases-with_two_bodies l = 8 * max (size-Node l.first.now) (size-Node l.second.now) + 4
+abbrev pub decreases-bodies_form : goal.decreases-bodies_form
+decreases-bodies_form l = 8 * max (size-Node l.first.now) (size-Node l.second.now) + 4
 
 abbrev pub invariant-in_order-loop-node : goal.invariant-in_order-loop-node
 invariant-in_order-loop-node l = behind l.code (each (map instruction_read (drop l.node-index l.nodes))) ≡ each (map instruction_read l.nodes)

@@ -1,6 +1,7 @@
 -- Each part of the parameter, with its names behind those before.
 use Rattle.std.proofs.Common.{None, sym, rules}
-use Rattle.michelson_reader.specs.Returned.{Refuses}
+use Rattle.micheline_text.specs.Told.{IsTold}
+use Rattle.michelson_reader.specs.Answers.{read_fault}
 use Rattle.michelson_reader.specs.ScriptFaults.{parameter_read}
 use Rattle.michelson_reader.proofs.Ways.{is_or, no_own_name, no_word_there, not_or, or_part, other_faults, other_parts, right_refused, unfit_notes}
 use Rattle.michelson_reader.proofs.parameter.+reading_parameters.Goals as goal
@@ -36,7 +37,7 @@ part-returns-in_err-right-clause-fault t c =
     let is = is_or c.args.n.now c.in-Prim.name c.in-Prim.notes c.in-Prim.args c.in-Prim.is c.in-Some.entry (sym (rw c.as_slice.ensures at c.in-Some.ensures)) c.index-args-0.result c.index-args-1.result
     (sym (rw (c.as_slice-args.ensures, c.as_slice-2.ensures) at c.if-not-is_or.ensures))
     (sym (rw c.as_slice-args.ensures at c.index-args-0.is)) (sym (rw c.as_slice-args.ensures at c.index-args-1.is)) in
-    let told : Refuses (parameter_read c.args.n.now) c.in_err-right.field-0.0 = right_refused c.args.n.now c.args.place.now.way c.args.place.now.names c.in-Some.entry c.index-args-0.result c.index-args-1.result is c.in_ok-left.left c.side.new.place.names (rw (c.in_ok-name_here.ensures.way, c.in_ok-name_here.ensures.names) at c.in_ok-left.ensures.read) c.in_err-right.field-0.0 c.in_err-right.ensures.fault in
+    let told : IsTold (read_fault c.in_err-right.field-0.0) (parameter_read c.args.n.now) = right_refused c.args.n.now c.args.place.now.way c.args.place.now.names c.in-Some.entry c.index-args-0.result c.index-args-1.result is c.in_ok-left.left c.side.new.place.names (rw (c.in_ok-name_here.ensures.way, c.in_ok-name_here.ensures.names) at c.in_ok-left.ensures.read) c.in_err-right.field-0.0 c.in_err-right.ensures.fault in
     search rules
 
 pub part-returns-clause-read : goal.part-returns-clause-read

@@ -2,7 +2,7 @@
 use Rattle.std.proofs.Common.{◌≡◌, List, [], ◌∷◌, ◌++◌, map, sym, ap, ◌∙◌, rules}
 use Rattle.std.proofs.lemmas.List.{map-append}
 use Rattle.michelson_code.specs.declared.script.Side.{Side}
-use Rattle.michelson_code.specs.Entries.{Entry}
+use Rattle.michelson_code.specs.Entries.{NamedEntry}
 use Rattle.michelson_reader.specs.Printing.{entry_of}
 use Rattle.michelson_reader.proofs.EntryNames.{below-end, below-off, below-on}
 use Rattle.michelson_reader.proofs.parameter_nodes.entries_below.Goals as goal
@@ -21,7 +21,7 @@ loop-entry-preserved c =
           ap (λ v. map entry_of v.items) w.below-is
           ∙ ap (map entry_of) w.in_ok-push.ensures.items
           ∙ map-append entry_of c.loop-entry.below.items (record { path = path; name = e.name } ∷ [])
-          ∙ ap (λ (ns : List Entry). ns ++ (path.now, e.name.now) ∷ []) c.loop-entry.invariant
+          ∙ ap (λ (ns : List NamedEntry). ns ++ (path.now, e.name.now) ∷ []) c.loop-entry.invariant
           ∙ sym (below-on c.args.entries.now c.loop-entry.entry-index e within (sym c.entry-item.is) side path.now on)
       | in-Some+else-eq w ↦
           let path = w.in-Some.path in

@@ -1,0 +1,9 @@
+-- A word takes two bodies where it makes something of them.
+use Rattle.std.proofs.Common.{ap, ◌∙◌}
+use Rattle.std.specs.Prelude.{is_some}
+use Rattle.michelson_reader.specs.Names.{forms_of_two_bodies}
+use Rattle.michelson_reader.proofs.FormReads.{is_in-made}
+use Rattle.michelson_reader.proofs.code_words.takes_two_bodies.Goals as goal
+
+pub returns : goal.returns
+returns c = c.is_some.ensures ∙ ap is_some c.with_two_bodies.ensures ∙ is_in-made c.args.name.now forms_of_two_bodies _
