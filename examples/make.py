@@ -22,7 +22,7 @@ USAGE = ('usage: compile SRC OUT | check CODE | genesis TEXT STATE | mine STATE 
          'validate STATE BLOCK NEXT WORKERS | show STATE | load NUMBER COUNT WORKERS\n')
 WORDS = 'validate state block next 1'
 LATEST_LEVEL = 2 ** 32 - 1
-GROUPS = ('accepted', 'refused', 'malformed', 'not_yet', 'many', 'states', 'words', 'files')
+GROUPS = ('accepted', 'refused', 'malformed', 'not_yet', 'many', 'states', 'scripts_checked', 'words', 'files')
 
 written = set()
 
@@ -265,6 +265,65 @@ def bad_states():
     assert STATE[47] == 5 and cell(A, 100) == STATE[24:56]
 
 
+def script(code, parameter='unit', storage='unit'):
+    return f'parameter {parameter} ; storage {storage} ; code {code}'
+
+
+def typed_scripts():
+    """Scripts that may run, each with its weight and its instructions."""
+    def runs(name, text, weight, instructions):
+        case('scripts_checked', name, f'ok: weight {weight}, instructions {instructions}\n', 0, 'check code',
+             {'code': text.encode()})
+    counter = script('{ UNPAIR ; ADD ; NIL operation ; PAIR }', 'int', 'int')
+    runs('counter', counter, 1 + 3 + 1 + 1, 4)
+    runs('counter_in_braces', '{ ' + counter + ' }', 1 + 3 + 1 + 1, 4)
+    runs('code_that_always_fails', script('{ CAR ; FAILWITH }', 'nat', 'nat'), 1 + 2, 2)
+    runs('branch_that_fails', script('{ PUSH bool True ; IF {} { FAILWITH } ; CDR ; NIL operation ; PAIR }'),
+         2 + 2 + 2 + 1 + 1 + 1, 6)
+    runs('stack_of_128_items', script('{ CDR ;' + ' DUP ;' * 127 + ' DROP 127 ; NIL operation ; PAIR }'), 131, 131)
+
+
+def faulty_scripts():
+    """Scripts with a fault each, and what is told of it."""
+    def faulty(name, text, why):
+        case('scripts_checked', name, f'code: {why}\n', 6, 'check code', {'code': text.encode()})
+
+    def untyped(name, why, *args):
+        faulty(name, script(*args), why)
+
+    def at(name, fault, code, word, *args):
+        """Told at the first byte of the word."""
+        text = script(code, *args)
+        faulty(name, text, f'{fault} at {text.index(word)}')
+    untyped('too_few_items', 'StackTooShort at 0', '{ ADD ; NIL operation ; PAIR }', 'int', 'int')
+    untyped('too_few_items_in_a_branch', 'StackTooShort at 1.0.0', '{ PUSH bool True ; IF { ADD } { CAR ; CAR } }')
+    untyped('operand_of_another_type', 'WrongType at 1', '{ UNPAIR ; ADD }')
+    untyped('branches_with_two_stacks', 'BranchesDiffer at 2', '{ CDR ; PUSH bool True ; IF { UNIT } {} ; NIL operation ; PAIR }')
+    untyped('loop_with_another_stack', 'BranchesDiffer at 1', '{ PUSH bool True ; LOOP { PUSH nat 1 } ; FAILWITH }')
+    untyped('set_of_lists', 'NotComparable at 0', '{ EMPTY_SET (list int) ; FAILWITH }')
+    untyped('parameter_with_a_map_of_lists', 'NotComparable at code', '{ FAILWITH }', '(map (list int) nat)')
+    untyped('parameter_with_a_big_map', 'BigMapPlace at code', '{ FAILWITH }', '(big_map nat nat)')
+    untyped('big_map_in_an_option_of_the_storage', 'BigMapPlace at code', '{ FAILWITH }', 'unit', '(option (big_map nat nat))')
+    untyped('two_entries_of_one_name', 'EntryTwice at code', '{ FAILWITH }', '(or (unit %a) (unit %a))')
+    untyped('instruction_behind_a_failing_one', 'FailNotLast at 1', '{ FAILWITH ; UNIT }')
+    untyped('failing_body_of_dip', 'FailNotLast at 1', '{ UNIT ; DIP { FAILWITH } }')
+    untyped('stack_of_129_items', 'StackTooTall at 127', '{' + ' DUP ;' * 128 + ' FAILWITH }')
+    untyped('type_129_deep', 'TypeTooLarge at code', '{ FAILWITH }', '(list ' * 128 + 'unit' + ')' * 128)
+    untyped('another_last_stack', 'LastStack at code', '{ DROP ; PUSH nat 0 }')
+    at('bracket_that_closes_nothing', 'BadToken', '{ DROP ) }', ')')
+    at('comment_without_an_end', 'Unclosed', '{ DROP } /* and', '/*')
+    at('number_past_the_range', 'WiderNumber', f'{{ PUSH nat {2 ** 127} }}', str(2 ** 127))
+    faulty('brackets_257_deep', '{' * 257, 'TooDeep at 256')
+    text = 'parameter unit ; storage unit'
+    faulty('section_left_out', text, f'Sections at {len(text)}')
+    at('word_that_is_left_out', 'LeftOut', '{ LAMBDA unit unit {} }', 'LAMBDA')
+    at('word_that_is_unknown', 'UnknownPrim', '{ FROB }', 'FROB')
+    at('one_argument_too_many', 'Arity', '{ UNIT 1 }', 'UNIT')
+    at('data_of_another_type', 'Shape', '{ PUSH nat "one" }', '"one"')
+    at('nat_below_zero', 'Range', '{ PUSH nat -1 }', '-1')
+    at('set_out_of_order', 'Order', '{ PUSH (set nat) { 2 ; 1 } }', '1 }')
+
+
 def words_and_files():
     both = {'state': STATE, 'block': EMPTY}
 
@@ -273,7 +332,10 @@ def words_and_files():
     usage('no_words', '')
     usage('one_word_too_few', 'validate state block next')
     usage('one_word_too_many', 'validate state block next 1 1')
-    usage('unknown_command', 'check state block next 1')
+    usage('unknown_command', 'judge state block next 1')
+    usage('check_without_a_word', 'check')
+    usage('check_of_two_words', 'check code code')
+    usage('empty_name_of_the_code', 'check ')
     usage('no_workers', 'validate state block next 0')
     usage('sixty_five_workers', 'validate state block next 65')
     usage('workers_with_a_leading_zero', 'validate state block next 01')
@@ -289,6 +351,7 @@ def words_and_files():
     case('files', 'block_is_missing_and_the_state_is_bad', 'cannot read block\n', 3, WORDS, {'state': b''})
     case('files', 'state_and_block_are_bad', 'state: Malformed at 0\n', 6, WORDS, {'state': b'', 'block': b''})
     case('files', 'next_cannot_be_written', 'cannot write nowhere/next\n', 4, 'validate state block nowhere/next 1', both)
+    case('files', 'code_is_missing', 'cannot read code\n', 3, 'check code')
     case('files', 'refused_before_next_is_tried', 'refused: Malformed at 0\n', 1, 'validate state block nowhere/next 1',
          {'state': STATE, 'block': b''})
 
@@ -297,7 +360,7 @@ def main():
     for group in GROUPS:
         shutil.rmtree(os.path.join(HERE, group), ignore_errors=True)
     for make in (accepted_blocks, refused_blocks, malformed_blocks, blocks_not_built_yet, blocks_of_many, bad_states,
-                 words_and_files):
+                 typed_scripts, faulty_scripts, words_and_files):
         make()
     print(f'{len(written)} examples')
 

@@ -5,11 +5,12 @@ use Rattle.byte_fields.specs.Stops as stops
 use Rattle.edge_io.specs.Outside.{Outside}
 use Rattle.ledger_state.specs.Ledger.{Ledger}
 use Rattle.ledger_state.specs.Reading.{ledger_of}
-use Rattle.block_cli.specs.Commands.{FileName, Command, Validate}
+use Rattle.block_cli.specs.Commands.{FileName, Command, Check, Validate}
 use Rattle.block_cli.specs.Report.{malformed, not_yet}
 use Rattle.block_cli.specs.Answer.{File, Answer, bad_input, first_too_long, limited_by, limited, WritesUnder}
 use Rattle.block_cli.specs.Verdict.{Verdict, Refused, Accepted}
 use Rattle.block_cli.specs.Validating.{answer_to, ValidatesOn}
+use Rattle.block_cli.specs.Checking.{Finding, MayRun, NoScript, Untyped, answer_of}
 use Rattle.block_cli.specs.Meaning.{Means}
 use Rattle.block_cli.specs.Runs.{Answered}
 
@@ -26,11 +27,19 @@ by_state state block next workers (Ok s) bytes answer (v, is, e) = is_one (Valid
 by_state state block next workers (Err (stops.Stopped stops.Faulty p)) bytes answer e = is_one (Validate state block next workers) answer (bad_input state (malformed p)) e refl
 by_state state block next workers (Err (stops.Stopped stops.NotYet p)) bytes answer e = is_one (Validate state block next workers) answer (bad_input state (not_yet p)) e refl
 
+by_finding : (code : FileName) (found : Finding) → WritesUnder (Check code) (answer_of code found).status (answer_of code found).written
+by_finding code (NoScript f) = refl
+by_finding code (Untyped path k) = refl
+by_finding code (MayRun s) = refl
+
 pub all_or_nothing : (c : Command) (contents : List (List ℕ)) (answer : Answer) → Means c contents answer → WritesUnder c answer.status answer.written
 all_or_nothing (Validate state block next workers) (spelt ∷ bytes ∷ []) answer means = by_state state block next workers (ledger_of spelt) bytes answer means
 all_or_nothing (Validate state block next workers) [] answer means = absurd means
 all_or_nothing (Validate state block next workers) (x ∷ []) answer means = absurd means
 all_or_nothing (Validate state block next workers) (x ∷ y ∷ z ∷ zs) answer means = absurd means
+all_or_nothing (Check code) (bytes ∷ []) answer (found, is, e) = is_one (Check code) answer (answer_of code found) e (by_finding code found)
+all_or_nothing (Check code) [] answer means = absurd means
+all_or_nothing (Check code) (x ∷ y ∷ zs) answer means = absurd means
 
 -- the limit of a file's length leaves it so
 limits : (c : Command) (answer : Answer) (file : Option File) → WritesUnder c answer.status answer.written → WritesUnder c (limited_by answer file).status (limited_by answer file).written

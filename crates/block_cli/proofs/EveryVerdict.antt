@@ -21,10 +21,11 @@ use Rattle.ledger_state.specs.Ledger.{Ledger}
 use Rattle.ledger_state.specs.Reading.{ledger_of}
 use Rattle.block_codec.specs.Spelling.{spelling}
 use Rattle.block_codec.specs.Reading.{block_of}
-use Rattle.block_cli.specs.Commands.{FileName, Validate}
+use Rattle.block_cli.specs.Commands.{FileName, Check, Validate}
 use Rattle.block_cli.specs.Report.{malformed, not_yet}
 use Rattle.block_cli.specs.Answer.{Answer, bad_input}
 use Rattle.block_cli.specs.Validating.{answer_to, ValidatesOn}
+use Rattle.block_cli.specs.Checking.{HaveAFinding, answer_of}
 use Rattle.block_cli.specs.Meaning.{ContentsHaveAnAnswer}
 use Rattle.block_codec.specs.Block.{BlockView, IsBlock}
 use Rattle.block_codec.specs.declared.transfer.Receipt.{Receipt}
@@ -191,8 +192,11 @@ by_ledger reads_block state next bytes fits (Ok s) = let v = verdict_there reads
 by_ledger reads_block state next bytes fits (Err (stops.Stopped stops.Faulty p)) = (bad_input state (malformed p), refl)
 by_ledger reads_block state next bytes fits (Err (stops.Stopped stops.NotYet p)) = (bad_input state (not_yet p), refl)
 
-pub answer_there : BlocksAreSpelt → ContentsHaveAnAnswer
-answer_there reads_block (Validate state block next workers) (spelt ∷ bytes ∷ []) all fits = by_ledger reads_block state next bytes fits.1.0 (ledger_of spelt)
-answer_there reads_block (Validate state block next workers) [] all fits = absurd (omega arith)
-answer_there reads_block (Validate state block next workers) (x ∷ []) all fits = absurd (omega arith)
-answer_there reads_block (Validate state block next workers) (x ∷ y ∷ z ∷ zs) all fits = absurd (omega arith)
+pub answer_there : BlocksAreSpelt → HaveAFinding → ContentsHaveAnAnswer
+answer_there reads_block finding (Validate state block next workers) (spelt ∷ bytes ∷ []) all fits = by_ledger reads_block state next bytes fits.1.0 (ledger_of spelt)
+answer_there reads_block finding (Validate state block next workers) [] all fits = absurd (omega arith)
+answer_there reads_block finding (Validate state block next workers) (x ∷ []) all fits = absurd (omega arith)
+answer_there reads_block finding (Validate state block next workers) (x ∷ y ∷ z ∷ zs) all fits = absurd (omega arith)
+answer_there reads_block finding (Check code) (bytes ∷ []) all fits = let found = finding bytes in (answer_of code found.0, (found.0, found.1, refl))
+answer_there reads_block finding (Check code) [] all fits = absurd (omega arith)
+answer_there reads_block finding (Check code) (x ∷ y ∷ zs) all fits = absurd (omega arith)

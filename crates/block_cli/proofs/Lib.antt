@@ -9,4 +9,7 @@ mod OneVerdict
 mod Replaying
 mod Disorder
 mod EveryVerdict
+mod Findings
+mod Weights
+mod Checked
 mod TrueBlocks

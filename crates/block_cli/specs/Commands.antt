@@ -12,18 +12,22 @@ FileName = List ℕ
 -- a command with what its words name, in their order
 pub data Command : Type 0 where
   Validate : FileName → FileName → FileName → ℕ → Command
+  Check : FileName → Command
 
 -- the files that it reads, in the order in which it reads them
 abbrev pub reads : Command → List FileName
 reads (Validate state block next workers) = state ∷ block ∷ []
+reads (Check code) = code ∷ []
 
 -- the files that it writes, in the order in which it writes them
 abbrev pub writes : Command → List FileName
 writes (Validate state block next workers) = next ∷ []
+writes (Check code) = []
 
 -- whether a run of it surely ends
 abbrev pub SurelyEnds : Command → Type 0
 SurelyEnds (Validate state block next workers) = Unit {0}
+SurelyEnds (Check code) = Unit {0}
 
 -- no name of a file is empty
 abbrev pub are_names : List FileName → Bool
@@ -37,10 +41,16 @@ validate_of (state ∷ block ∷ next ∷ workers ∷ []) =
     else None
 validate_of _ = None
 
+-- CODE
+abbrev pub check_of : List (List ℕ) → Option Command
+check_of (code ∷ []) = if are_names (code ∷ []) then Some (Check code) else None
+check_of _ = None
+
 -- the command that the words ask for, by the first of them
 unfoldable pub command_of : List (List ℕ) → Option Command
 command_of (verb ∷ words) =
     if bytes_eq verb (codes "validate") then validate_of words
+    else if bytes_eq verb (codes "check") then check_of words
     else None
 command_of [] = None
 

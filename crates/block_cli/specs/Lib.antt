@@ -6,6 +6,8 @@ pub mod Report
 pub mod Answer
 pub mod Verdict
 pub mod Validating
+pub mod Faulty
+pub mod Checking
 pub mod Meaning
 pub mod Seen
 pub mod Inputs

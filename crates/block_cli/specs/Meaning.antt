@@ -2,14 +2,17 @@
 use Rattle.std.specs.Prelude.{◌≡◌, ℕ, List, [], ◌∷◌, length}
 use Rattle.std.specs.List.{AllByRecursion}
 use Rattle.byte_fields.specs.Laws.{IsBytes}
-use Rattle.block_cli.specs.Commands.{Command, Validate, reads}
+use Rattle.block_cli.specs.Commands.{Command, Check, Validate, reads}
 use Rattle.block_cli.specs.Answer.{Answer, WritesUnder}
 use Rattle.block_cli.specs.Validating.{Validates}
+use Rattle.block_cli.specs.Checking.{Checks}
 
 -- an answer to these contents, which stand in the order of the files
 abbrev pub Means : Command → List (List ℕ) → Answer → Type 0
 Means (Validate state block next workers) (spelt ∷ bytes ∷ []) answer = Validates state next spelt bytes answer
 Means (Validate state block next workers) _ answer = ⊥
+Means (Check code) (bytes ∷ []) answer = Checks code bytes answer
+Means (Check code) _ answer = ⊥
 
 -- every command has an answer to the bytes of all files that it reads
 abbrev pub ContentsHaveAnAnswer : Type 0

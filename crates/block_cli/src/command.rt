@@ -6,6 +6,7 @@ ghost use Rattle.block_cli.specs.Meaning.{Means};
 ghost use Rattle.block_cli.specs.Inside.{answer_in, bytes_in, command_in};
 
 use crate::answer::Answer;
+use crate::check::check;
 use crate::validate::validate;
 use edge_io::Workers;
 use std::alloc::{AllocError, Global};
@@ -24,6 +25,11 @@ pub enum Command<'a> {
         /// How many may work on it, from 1 to 64. Today one does.
         workers: Workers,
     },
+    /// Tells whether a script may run, and writes nothing.
+    Check {
+        /// The name of the file that holds the script's text, not empty.
+        code: &'a str,
+    },
 }
 
 /// The first and the second of two.
@@ -37,13 +43,22 @@ fn both(contents: Vec<Vec<u8>>) -> (Vec<u8>, Vec<u8>)
     (first, second)
 }
 
+/// The one that there is.
+fn only(contents: Vec<Vec<u8>>) -> Vec<u8>
+    requires { length contents.items ≡ 1 }
+    ensures { bytes_in contents.items ≡ result.items ∷ [] }
+{
+    let mut contents = contents;
+    contents.pop().unwrap()
+}
+
 impl<'a> Command<'a> {
     /// Whether a run of it surely ends.
     pub fn surely_ends(&self) -> bool
         ensures { IsTrue result ↔ SurelyEnds (command_in self.now) }
     {
         match self {
-            Command::Validate { .. } => true,
+            Command::Validate { .. } | Command::Check { .. } => true,
         }
     }
 
@@ -54,6 +69,7 @@ impl<'a> Command<'a> {
     {
         match self {
             Command::Validate { state, block, .. } => Vec::from_slice(alloc, &[*state, *block]),
+            Command::Check { code } => Vec::from_slice(alloc, &[*code]),
         }
     }
 
@@ -69,6 +85,7 @@ impl<'a> Command<'a> {
                 let (spelt, block) = both(contents);
                 validate(alloc, state, next, spelt, &block)
             }
+            Command::Check { code } => check(alloc, code, &only(contents)),
         }
     }
 }

@@ -1,10 +1,15 @@
 //! What is true of the definitions.
 ghost use Rattle.block_cli.specs.Numbers.{NumbersAreDecimals, NumbersHaveOneSpelling};
 ghost use Rattle.block_cli.specs.Meaning.{AnswersWriteAllOrNothing, ContentsHaveAnAnswer};
+ghost use Rattle.block_cli.specs.Checking.{HaveAFinding, HaveOneFinding};
 ghost use Rattle.block_cli.specs.Verdict.{AcceptedBlocksLeaveLedgers, AcceptedBytesAreTrueBlocks, HaveAVerdict, HaveOneVerdict};
 
 use block_codec::blocks_have_one_spelling;
 use ledger_state::ledgers_have_one_spelling;
+use michelson_code::{
+    a_script_has_one_fault, a_script_is_typed_or_has_a_fault, a_typed_script_has_no_fault,
+};
+use michelson_reader::{a_text_spells_one_script, bytes_are_a_script_or_have_one_fault};
 use plain_transfers::supply_is_kept;
 
 /// A number is spelt as a word in one way: `0`, or digits of which the first isn't 0.
@@ -30,11 +35,24 @@ pub fn verdict_is_there()
     blocks_have_one_spelling();
 }
 
+/// Any bytes are found to be a script that may run, one that isn't typed, or none, and in one way.
+pub fn texts_have_one_finding()
+    ensures there { HaveAFinding }
+    ensures one { HaveOneFinding }
+{
+    bytes_are_a_script_or_have_one_fault();
+    a_text_spells_one_script();
+    a_script_is_typed_or_has_a_fault();
+    a_typed_script_has_no_fault();
+    a_script_has_one_fault();
+}
+
 /// Every command has an answer to the contents of all its files.
 pub fn contents_have_an_answer()
     ensures { ContentsHaveAnAnswer }
 {
     blocks_have_one_spelling();
+    texts_have_one_finding();
 }
 
 /// Bytes are accepted exactly where they spell a block that is published as it is run.

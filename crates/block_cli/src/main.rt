@@ -5,6 +5,7 @@
 //! - `words`: which words ask for a command. `command`: the commands, what each reads, its answer.
 //! - `input`: reading the files of a command. `answer`, `output`: what is written and printed.
 //! - `validate`: the answer to the bytes of a state and of a block, of the command of that name.
+//! - `check`: the answer to the bytes of a script's text; `faulty`: its lines.
 //! - `verdict`: what a block is worth on a state. `replay`: its operations, run again against what
 //!   it publishes of them. `refusal`: why it is refused. `next`: the state after it, and its digest.
 //! - `report`: every line that is printed, over `print`. `status`: how a run ends.
@@ -17,7 +18,9 @@
 #![tactic(auto)]
 
 mod answer;
+mod check;
 mod command;
+mod faulty;
 mod input;
 mod laws;
 mod next;

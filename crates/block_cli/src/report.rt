@@ -137,7 +137,7 @@ fn put_balance(alloc: Global, address: &Address, text: &mut Vec<u8>) -> Result<(
     text.extend_from_slice(digits.as_bytes())
 }
 
-fn numbered(alloc: Global, words: &[u8], number: u64) -> Result<Vec<u8>, AllocError>
+pub fn numbered(alloc: Global, words: &[u8], number: u64) -> Result<Vec<u8>, AllocError>
     ensures { IfOk result (λ v. v.items ≡ words.now ++ decimal number) }
 {
     let mut text = Vec::from_slice(alloc, words)?;
@@ -145,14 +145,14 @@ fn numbered(alloc: Global, words: &[u8], number: u64) -> Result<Vec<u8>, AllocEr
     Ok(text)
 }
 
-fn put_number(alloc: Global, number: u64, text: &mut Vec<u8>) -> Result<(), AllocError>
+pub fn put_number(alloc: Global, number: u64, text: &mut Vec<u8>) -> Result<(), AllocError>
     ensures { OnOk result (text.new.items ≡ text.old.items ++ decimal number) }
 {
     let digits = number.to_string(alloc)?;
     text.extend_from_slice(digits.as_bytes())
 }
 
-fn line_of(alloc: Global, a: &[u8], b: &[u8], c: &[u8]) -> Result<Vec<u8>, AllocError>
+pub fn line_of(alloc: Global, a: &[u8], b: &[u8], c: &[u8]) -> Result<Vec<u8>, AllocError>
     ensures { IfOk result (λ v. v.items ≡ line (a.now ++ b.now ++ c.now)) }
 {
     let mut text = Vec::from_slice(alloc, a)?;

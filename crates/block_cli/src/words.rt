@@ -2,7 +2,7 @@
 ghost use Rattle.std.specs.Prelude.{◌≡◌, ◌≤◌, map, string_bytes};
 ghost use Rattle.std.specs.Option.{option_map};
 ghost use Rattle.block_cli.specs.Numbers.{number_of, workers_of, most_number};
-ghost use Rattle.block_cli.specs.Commands.{command_of, validate_of};
+ghost use Rattle.block_cli.specs.Commands.{check_of, command_of, validate_of};
 ghost use Rattle.block_cli.specs.Inside.{begins_otherwise, command_in};
 
 use crate::command::Command;
@@ -51,6 +51,21 @@ fn validate_of(words: &[String]) -> Option<Command<'_>>
     })
 }
 
+/// The words behind `check`.
+fn check_of(words: &[String]) -> Option<Command<'_>>
+    ensures { option_map command_in result ≡ check_of (map string_bytes words.now) }
+{
+    let [code] = words else {
+        return None;
+    };
+    if code.is_empty() {
+        return None;
+    }
+    Some(Command::Check {
+        code: code.as_str(),
+    })
+}
+
 /// The command that the words ask for.
 #[tactic(auto, unfolding(crate::specs::Commands::command_of))]
 pub fn command_of(words: &[String]) -> Option<Command<'_>>
@@ -59,6 +74,7 @@ pub fn command_of(words: &[String]) -> Option<Command<'_>>
     let (verb, words) = words.split_first()?;
     match verb.as_str() {
         "validate" => validate_of(words),
+        "check" => check_of(words),
         _ => None,
     }
 }

@@ -9,6 +9,7 @@
 //! - `values`: bytes of values, their order, and the small checked types.
 //! - `nodes`: Micheline text, read and printed.
 //! - `scripts`: scripts and data, read and printed.
+//! - `typing`: scripts that may run, and the faults of others.
 //! - `faults`: how a fault is answered.
 #![tactic(auto)]
 
@@ -16,6 +17,7 @@ mod answer;
 mod faults;
 mod nodes;
 mod scripts;
+mod typing;
 mod values;
 mod words;
 
@@ -32,6 +34,7 @@ fn answer_to(alloc: Global, line: &str) -> Result<Vec<u8>, AllocError> {
     let answer = match line.split_once(' ') {
         Some((call, word)) if call == "nodes" => return nodes::answer(alloc, word),
         Some((call, words)) if is_of_scripts(call) => return scripts::answer(alloc, call, words),
+        Some((call, word)) if call == "check" => return typing::answer(alloc, word),
         Some((call, words)) => values::answer(alloc, call, words)?,
         None => Answer::NoCase,
     };
