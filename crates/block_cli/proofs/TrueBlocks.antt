@@ -4,7 +4,6 @@ use Rattle.std.specs.Prelude.{slice_get}
 use Rattle.std.specs.List.{AllByRecursion}
 use Rattle.byte_fields.specs.Stops.{Stop}
 use Rattle.byte_fields.specs.Stops as stops
-use Rattle.byte_fields.specs.Laws.{IsBytes}
 use Rattle.edge_io.specs.Outside.{most_bytes}
 use Rattle.ledger_state.specs.Ledger.{Ledger, Balances, AreBalances, supply}
 use Rattle.ledger_state.specs.Reading.{ledger_of}
