@@ -15,13 +15,17 @@ is_letter b = (nat_le 65 b && nat_le b 90) || (nat_le 97 b && nat_le b 122)
 abbrev pub is_word_byte : ℕ → Bool
 is_word_byte b = is_letter b || is_digit b || (b == 95)
 
+-- the `%` that begins the name of an entry
+abbrev pub percent : ℕ
+percent = 37
+
 -- what an annotation goes on with: also `.`, `%` and `@`
 abbrev pub is_note_byte : ℕ → Bool
-is_note_byte b = is_word_byte b || (b == 46) || (b == 37) || (b == 64)
+is_note_byte b = is_word_byte b || (b == 46) || (b == percent) || (b == 64)
 
 -- what an annotation begins with: `%`, `:` or `@`
 abbrev pub begins_note : ℕ → Bool
-begins_note b = (b == 37) || (b == 58) || (b == 64)
+begins_note b = (b == percent) || (b == 58) || (b == 64)
 
 -- a hexadecimal digit in either case
 abbrev pub is_hex : ℕ → Bool

@@ -27,6 +27,7 @@ pub(crate) enum Move {
 /// What follows a gap.
 #[derive(Clone, Copy, Debug, PartialEq, Eq)]
 pub enum Gap {
+    /// Nothing follows it: the text ends.
     End,
     /// So many bytes are left at the token.
     Token(usize),

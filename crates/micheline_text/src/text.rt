@@ -22,8 +22,11 @@ pub(crate) enum Part {
 /// How a string ends: by its quote, with the bytes, or before a byte that stands in no string.
 #[derive(Clone, Copy, Debug, PartialEq, Eq)]
 pub enum Ending {
+    /// Its quote stands.
     Closed,
+    /// The bytes end before its quote.
     Open,
+    /// A byte that no string has, or an escape that is none of the three.
     Wrong,
 }
 

@@ -10,23 +10,41 @@ use crate::instr::Instr;
 /// One level of a type, with something else in the place of each part.
 #[derive(Clone, Copy, PartialEq, Eq, Hash)]
 pub enum Level<P> {
+    /// `unit`.
     Unit,
+    /// `bool`.
     Bool,
+    /// `int`.
     Int,
+    /// `nat`.
     Nat,
+    /// `mutez`, an amount in millionths.
     Mutez,
+    /// `timestamp`, in seconds since 1970.
     Time,
+    /// `string`.
     Text,
+    /// `bytes`.
     Bytes,
+    /// `address`.
     Addr,
+    /// `option` of the part.
     Option(P),
+    /// `or` of the left and the right part.
     Or(P, P),
+    /// `pair` of the first and the second part.
     Pair(P, P),
+    /// `list` of the part.
     List(P),
+    /// `set` of the part.
     Set(P),
+    /// `map` from the first part to the second.
     Map(P, P),
+    /// `big_map` from the first part to the second.
     BigMap(P, P),
+    /// `contract` that takes the part.
     Contract(P),
+    /// `operation`.
     Operation,
 }
 
@@ -43,10 +61,15 @@ pub enum Part {
     T,
     /// The second type that it writes.
     U,
+    /// `int`.
     Int,
+    /// `nat`.
     Nat,
+    /// `mutez`, an amount in millionths.
     Mutez,
+    /// `string`.
     Text,
+    /// `bytes`.
     Bytes,
 }
 
@@ -64,9 +87,13 @@ pub enum Slot {
 /// Operands or results, from the top of the stack.
 #[derive(Clone, Copy)]
 pub enum Slots {
+    /// Nothing is taken, or left.
     None,
+    /// The top alone.
     One(Slot),
+    /// The top, and the item below it.
     Two(Slot, Slot),
+    /// The top, and the two items below it.
     Three(Slot, Slot, Slot),
 }
 

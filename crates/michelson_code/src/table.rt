@@ -12,6 +12,7 @@ use value_core::{Name, Ty, Val};
 pub enum Operand<'a> {
     /// A number that isn't below the least.
     Number { least: u32, number: u32 },
+    /// A type.
     Type(&'a Ty),
     /// Data of a type.
     Data(&'a Ty, &'a Val),
@@ -22,19 +23,24 @@ pub enum Operand<'a> {
 /// The operands of a form, from the left.
 #[derive(Clone, Copy)]
 pub enum Operands<'a> {
+    /// Nothing stands behind the word.
     None,
+    /// One operand.
     One(Operand<'a>),
+    /// Two operands, in the order in which they are written.
     Two(Operand<'a>, Operand<'a>),
 }
 
 /// A line of the table of forms.
 #[derive(Clone, Copy)]
 pub struct Form<'a> {
+    /// The word that begins it, in capitals.
     pub word: &'static str,
     /// The gas, without that of bodies.
     pub cost: u64,
     /// The name of an entry or none, where the word takes one.
     pub entry: Option<Option<Name>>,
+    /// What stands behind the word.
     pub operands: Operands<'a>,
 }
 

@@ -3,6 +3,7 @@ use Rattle.std.specs.Prelude.{ℕ, ◌==◌, List, [], ◌∷◌, ◌++◌, map,
 use Rattle.std.specs.Option.{option_and_then, option_map}
 use Rattle.std.specs.Str.{bytes_eq}
 use Rattle.value_core.specs.Leaves.{is_name}
+use Rattle.micheline_text.specs.Kinds.{percent}
 use Rattle.micheline_text.specs.declared.node.Node.{Node}
 use Rattle.micheline_text.specs.declared.node.Body.TheOpen as body
 use Rattle.micheline_text.specs.declared.node.Body.TheOpen.{Body-F}
@@ -14,7 +15,7 @@ use Rattle.michelson_code.specs.Entries.{NamedEntry}
 -- the annotations that begin with `%`, without it
 abbrev pub name_in : List ℕ → List (List ℕ)
 name_in [] = []
-name_in (b ∷ note) = if b == 37 then note ∷ [] else []
+name_in (b ∷ note) = if b == percent then note ∷ [] else []
 
 -- all of them
 abbrev pub names_in : List (List ℕ) → List (List ℕ)
