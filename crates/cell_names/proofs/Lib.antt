@@ -2,5 +2,8 @@ pub mod Touches
 pub mod Rising
 pub mod Grammar
 pub mod Later
-pub mod NotYet
-pub mod StopLemmas
+pub mod Puts
+pub mod Undoing
+pub mod Exchanging
+pub mod Money
+pub mod Writable

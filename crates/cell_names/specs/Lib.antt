@@ -6,5 +6,10 @@ pub mod Footprints
 pub mod Spelling
 pub mod Stops
 pub mod Reading
+pub mod Contents
+pub mod Effects
+pub mod Stores
+pub mod Supply
+pub mod Laws
 -- what functions inside promise each other
 pub mod CellOrder

@@ -1,23 +1,38 @@
--- Reading cells and footprints: where the first fault is, and where a kind of cell stands that isn't built.
-use Rattle.std.specs.Prelude.{ℕ, ◌-◌, List, length, Bool, true, Option, Some, None, nat_le, ◌==◌, if◌then◌else◌, slice_get}
+-- Reading cells and footprints: what is read, and where the first fault is.
+use Rattle.std.specs.Prelude.{ℕ, ◌-◌, List, length, Bool, true, Option, Some, None, Err, nat_le, ◌==◌, if◌then◌else◌, slice_get}
 use Rattle.std.specs.Int.{w8, w32}
 use Rattle.std.specs.Option.{option_map}
 use Rattle.std.specs.Ordering.{is_lt}
-use Rattle.byte_fields.specs.Readers.{Reader, made, both, with, checked, built, chained, number}
-use Rattle.value_codec.specs.Reading.{address}
+use Rattle.byte_fields.specs.Stops.{Faulty, Stopped}
+use Rattle.byte_fields.specs.Readers.{Reader, made, both, with, checked, chained, number, tagged}
+use Rattle.value_codec.specs.declared.tag.TheConstants.{KEY_VALUE}
+use Rattle.value_codec.specs.Reading.{address, place, value}
 use Rattle.cell_names.specs.declared.cell.Cell.{Cell}
-use Rattle.cell_names.specs.declared.cell.Cell.TheVariants.{Balance}
+use Rattle.cell_names.specs.declared.cell.Cell.TheVariants.{Balance, Storage, Entry}
+use Rattle.cell_names.specs.declared.footprint.TheConstants.{MOST_CELLS}
 use Rattle.cell_names.specs.declared.mode.Mode.{Mode}
 use Rattle.cell_names.specs.declared.mode.Mode.TheVariants as modes
 use Rattle.cell_names.specs.Cells.{cell_cmp}
 
--- the three kinds of cells, of which balances are built
-abbrev pub kind : Reader ℕ
-kind = built (λ k. k == 0) (checked (λ k. nat_le k 2) (number w8))
+-- the kinds of cells
+abbrev pub is_kind : ℕ → Bool
+is_kind k = nat_le k 2
 
--- the kind, then the address
+-- what stands behind the kind of an entry: the address, the place and the key
+abbrev pub entry : Reader Cell
+entry = made (λ p. Entry p.0 p.1.0 p.1.1) (both address (both place (value KEY_VALUE 128)))
+
+-- what stands behind each kind
+abbrev pub behind : ℕ → Reader Cell
+behind k =
+    if k == 0 then made Balance address else
+    if k == 1 then made Storage address else
+    if k == 2 then entry else
+    λ bytes. Err (Stopped Faulty (length bytes))
+
+-- the kind, and what stands behind it
 abbrev pub cell : Reader Cell
-cell = made (λ p. Balance p.1) (both kind address)
+cell = tagged is_kind behind
 
 -- what a byte up to 2 means as a mode
 abbrev pub mode_of_byte : ℕ → Mode
@@ -40,9 +55,9 @@ touch last = both (checked (is_above last) cell) mode
 abbrev pub next_last : Option Cell → Cell × Mode → Option Cell
 next_last last t = Some t.0
 
--- at most 256 touches, counted before
+-- so many touches, counted before
 abbrev pub footprint : Reader (List (Cell × Mode))
-footprint = with (checked (λ n. nat_le n 256) (number w32)) (chained touch next_last None)
+footprint = with (checked (λ n. nat_le n MOST_CELLS) (number w32)) (chained touch next_last None)
 
 -- the last cell of those that were read
 abbrev pub last_cell : List (Cell × Mode) → Option Cell

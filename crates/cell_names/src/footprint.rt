@@ -11,6 +11,9 @@ use crate::mode::{Mode, join};
 use std::alloc::Global;
 use std::marker::Model;
 
+/// How many cells one operation may touch.
+pub const MOST_CELLS: usize = 256;
+
 /// The cells that an operation touched, ascending, each with the join of its modes.
 #[derive(Debug, Drop)]
 pub struct Footprint {
@@ -19,11 +22,15 @@ pub struct Footprint {
 
 impl Model for Footprint {
     ghost use Rattle.std.specs.Prelude.{List, IsTrue};
+    ghost use Rattle.std.specs.Coded.{codes};
+    ghost use Rattle.value_core.specs.contracts.val.Val as val;
     ghost use Rattle.cell_names.specs.declared.cell.Cell.{Cell};
     ghost use Rattle.cell_names.specs.declared.mode.Mode.{Mode};
     ghost use Rattle.cell_names.specs.Footprints.{ascends};
 
     ghost Value = { List (Cell × Mode) };
+
+    ghost coded = { Prim.hlevel (codes, val.the_row.coded) };
 
     ghost view = { λ f. f.touches.items };
 

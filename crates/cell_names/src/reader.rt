@@ -1,45 +1,39 @@
 //! Reading cells and footprints from bytes.
 
-ghost use Rattle.std.specs.Prelude.{◌≡◌, ◌≤◌, ◌↔◌, ℕ, None, Err, length, drop, slice_index, IfOk, IfErr, IsSome};
+ghost use Rattle.std.specs.Prelude.{◌≡◌, ◌≤◌, None, length, drop, IfOk};
 ghost use Rattle.std.specs.Option.{option_copied};
-ghost use Rattle.byte_fields.specs.Stops.{NotYet, Stopped};
-ghost use Rattle.byte_fields.specs.Readers.{chained};
+ghost use Rattle.byte_fields.specs.Readers.{chained, made};
+ghost use Rattle.byte_fields.specs.Told.{Answers, AnswersUnlessFull, left_stop, read_stop, field_fault, placed};
 ghost use Rattle.byte_fields.specs.Laws.{Spelt, TellsSpelt};
-ghost use Rattle.byte_fields.specs.Told.{Answers, AnswersUnlessFull, left_stop, placed};
-ghost use Rattle.cell_names.specs.declared.fault.FormatFault.TheVariants as faults;
-ghost use Rattle.cell_names.specs.Spelling.{spell_cell, spell_footprint, IsCell, IsFootprint, IsLaterKind, StopsAt};
-ghost use Rattle.cell_names.specs.Stops.{field_stop, format_stop, format_fault};
-ghost use Rattle.cell_names.specs.Reading.{mode, cell, touch, next_last, footprint, is_above, last_cell};
+ghost use Rattle.value_codec.specs.Reading.{address, place};
+ghost use Rattle.cell_names.specs.declared.cell.Cell.TheVariants as cells;
+ghost use Rattle.cell_names.specs.Spelling.{spell_cell, spell_footprint, IsCell, IsFootprint};
+ghost use Rattle.cell_names.specs.Reading.{behind, cell, entry, mode, touch, is_above, next_last, footprint, last_cell};
 
 use crate::cell::{Cell, order};
-use crate::fault::{FieldStop, FormatFault, FormatStop, fault_at};
-use crate::footprint::Footprint;
+use crate::footprint::{Footprint, MOST_CELLS};
 use crate::mode::Mode;
-use byte_fields::{Left, u8_at, u32_at};
+use byte_fields::{FieldFault, Left, ReadStop, fault_at, u8_at, u32_at};
 use std::alloc::Global;
-use value_codec::address_at;
+use value_codec::{KEY_VALUE, address_at, value_at};
 
 /// The footprint that is spelt at the place, and the place after it.
-pub fn read_footprint(alloc: Global, b: &[u8], at: usize) -> Result<(Footprint, usize), FormatFault>
+pub fn read_footprint(alloc: Global, b: &[u8], at: usize) -> Result<(Footprint, usize), FieldFault>
     requires { at ≤ length b.now }
-
-    // What is read is spelt there, and what is spelt there is read, unless memory runs out.
+    // What is read is spelt there.
     ensures found { IfOk result (Spelt spell_footprint IsFootprint b.now at) }
-    ensures only { TellsSpelt format_fault spell_footprint IsFootprint b.now at result }
-
-    // Which fault it is, and where a kind stands that isn't built.
-    ensures exact { AnswersUnlessFull format_fault (λ x. x) result
+    // What is spelt there is read, unless memory runs out.
+    ensures only { TellsSpelt field_fault spell_footprint IsFootprint b.now at result }
+    // Which fault it is.
+    ensures exact { AnswersUnlessFull field_fault (λ x. x) result
         (placed (length b.now) (footprint (drop at b.now))) }
-    ensures not_yet { (p : ℕ) → result ≡ Err (faults.NotYet p) → StopsAt b.now at p }
-    ensures not_yet_only { (p : ℕ) → StopsAt b.now at p →
-        AnswersUnlessFull format_fault (λ x. x) result (Err (Stopped NotYet p)) }
 {
     footprint_told(alloc, b, at)
 }
 
-fn footprint_told(alloc: Global, b: &[u8], at: usize) -> Result<(Footprint, usize), FormatFault>
+fn footprint_told(alloc: Global, b: &[u8], at: usize) -> Result<(Footprint, usize), FieldFault>
     requires { at ≤ length b.now }
-    ensures { AnswersUnlessFull format_fault (λ x. x) result
+    ensures { AnswersUnlessFull field_fault (λ x. x) result
         (placed (length b.now) (footprint (drop at b.now))) }
 {
     match footprint_at(alloc, b.split_at(at).1) {
@@ -49,61 +43,55 @@ fn footprint_told(alloc: Global, b: &[u8], at: usize) -> Result<(Footprint, usiz
 }
 
 /// The cell that is spelt at the place, and the place after it.
-pub fn read_cell(b: &[u8], at: usize) -> Result<(Cell, usize), FormatFault>
+pub fn read_cell(alloc: Global, b: &[u8], at: usize) -> Result<(Cell, usize), FieldFault>
     requires { at ≤ length b.now }
-
-    // What is read is spelt there, and what is spelt there is read.
+    // What is read is spelt there.
     ensures found { IfOk result (Spelt spell_cell IsCell b.now at) }
-    ensures only { TellsSpelt format_fault spell_cell IsCell b.now at result }
-
-    // Which fault it is, and never want of memory; and whether the kind isn't built.
-    ensures exact { AnswersUnlessFull format_fault (λ x. x) result
+    // What is spelt there is read, unless memory runs out.
+    ensures only { TellsSpelt field_fault spell_cell IsCell b.now at result }
+    // Which fault it is.
+    ensures exact { AnswersUnlessFull field_fault (λ x. x) result
         (placed (length b.now) (cell (drop at b.now))) }
-    ensures told { IfErr result (λ fault. IsSome (format_fault fault)) }
-    ensures not_yet { (p : ℕ) → (result ≡ Err (faults.NotYet p))
-        ↔ ((p ≡ at) × IsLaterKind (slice_index b.now at)) }
 {
-    cell_told(b, at)
+    cell_told(alloc, b, at)
 }
 
-fn cell_told(b: &[u8], at: usize) -> Result<(Cell, usize), FormatFault>
+fn cell_told(alloc: Global, b: &[u8], at: usize) -> Result<(Cell, usize), FieldFault>
     requires { at ≤ length b.now }
-    ensures exact { AnswersUnlessFull format_fault (λ x. x) result
+    ensures { AnswersUnlessFull field_fault (λ x. x) result
         (placed (length b.now) (cell (drop at b.now))) }
-    ensures told { IfErr result (λ fault. IsSome (format_fault fault)) }
 {
-    match cell_at(b.split_at(at).1) {
+    match cell_at(alloc, b.split_at(at).1) {
         Ok((cell, rest)) => Ok((cell, b.len().saturating_sub(rest.len()))),
-        Err(FieldStop::Left(left)) => Err(fault_at(b.len(), FormatStop::Left(left))),
-        Err(FieldStop::NotYet(left)) => Err(fault_at(b.len(), FormatStop::NotYet(left))),
+        Err(stop) => Err(fault_at(b.len(), stop)),
     }
 }
 
 /// A footprint at the front of the bytes, and the bytes after it.
-pub fn footprint_at(alloc: Global, bytes: &[u8]) -> Result<(Footprint, &[u8]), FormatStop>
-    ensures { AnswersUnlessFull format_stop (λ x. (x.0, x.1.now)) result (footprint bytes.now) }
+pub fn footprint_at(alloc: Global, bytes: &[u8]) -> Result<(Footprint, &[u8]), ReadStop>
+    ensures { AnswersUnlessFull read_stop (λ x. (x.0, x.1.now)) result (footprint bytes.now) }
 {
     let (count, rest) = u32_at(bytes)?;
-    if count > 256 {
-        return Err(FormatStop::Left(bytes.len()));
+    if count as usize > MOST_CELLS {
+        return Err(ReadStop::Left(bytes.len()));
     }
     touches_at(alloc, count, rest)
 }
 
 /// So many touches, ascending.
-fn touches_at(alloc: Global, count: u32, bytes: &[u8]) -> Result<(Footprint, &[u8]), FormatStop>
-    ensures { AnswersUnlessFull format_stop (λ x. (x.0, x.1.now)) result
+fn touches_at(alloc: Global, count: u32, bytes: &[u8]) -> Result<(Footprint, &[u8]), ReadStop>
+    ensures { AnswersUnlessFull read_stop (λ x. (x.0, x.1.now)) result
         (chained touch next_last None count bytes.now) }
 {
     let mut touches: Vec<(Cell, Mode)> = Vec::new(alloc);
     let mut rest = bytes;
     for _ in 0..count {
-        match touch_at(last_of(touches.as_slice()), rest) {
+        match touch_at(alloc, last_of(touches.as_slice()), rest) {
             Ok((touch, after)) => {
                 touches.push(touch)?;
                 rest = after;
             }
-            Err(stop) => return Err(FormatStop::from(stop)),
+            Err(stop) => return Err(stop),
         }
     }
     Ok((Footprint::of_touches(touches), rest))
@@ -118,19 +106,33 @@ fn last_of(touches: &[(Cell, Mode)]) -> Option<&Cell>
     }
 }
 
-fn touch_at<'a>(last: Option<&Cell>, bytes: &'a [u8]) -> Result<((Cell, Mode), &'a [u8]), FieldStop>
-    ensures { Answers field_stop (λ x. (x.0, x.1.now)) result
+fn touch_at<'a>(
+    alloc: Global,
+    last: Option<&Cell>,
+    bytes: &'a [u8],
+) -> Result<((Cell, Mode), &'a [u8]), ReadStop>
+    ensures { AnswersUnlessFull read_stop (λ x. (x.0, x.1.now)) result
         (touch (option_copied last.entry) bytes.now) }
 {
-    match cell_at(bytes) {
+    match cell_at(alloc, bytes) {
         Ok((cell, rest)) => {
             if !stands_above(last, &cell) {
-                return Err(FieldStop::Left(bytes.len()));
+                return Err(ReadStop::Left(bytes.len()));
             }
-            let (mode, rest) = mode_at(rest)?;
-            Ok(((cell, mode), rest))
+            touch_of(cell, rest)
         }
         Err(stop) => Err(stop),
+    }
+}
+
+/// The cell with the mode that stands behind it.
+fn touch_of(cell: Cell, bytes: &[u8]) -> Result<((Cell, Mode), &[u8]), ReadStop>
+    ensures { AnswersUnlessFull read_stop (λ x. (x.0, x.1.now)) result
+        (made (λ mode. (cell, mode)) mode bytes.now) }
+{
+    match mode_at(bytes) {
+        Ok((mode, rest)) => Ok(((cell, mode), rest)),
+        Err(stop) => Err(ReadStop::from(stop)),
     }
 }
 
@@ -144,18 +146,75 @@ fn stands_above(last: Option<&Cell>, cell: &Cell) -> bool
 }
 
 /// A cell at the front of the bytes, and the bytes after it.
-pub fn cell_at(bytes: &[u8]) -> Result<(Cell, &[u8]), FieldStop>
-    ensures { Answers field_stop (λ x. (x.0, x.1.now)) result (cell bytes.now) }
+pub fn cell_at(alloc: Global, bytes: &[u8]) -> Result<(Cell, &[u8]), ReadStop>
+    ensures { AnswersUnlessFull read_stop (λ x. (x.0, x.1.now)) result (cell bytes.now) }
 {
     let (kind, rest) = u8_at(bytes)?;
-    match kind {
-        0 => match address_at(rest) {
-            Ok((address, rest)) => Ok((Cell::Balance(address), rest)),
-            Err(stop) => Err(FieldStop::from(stop)),
-        },
-        1 | 2 => Err(FieldStop::NotYet(bytes.len())),
-        _ => Err(FieldStop::Left(bytes.len())),
+    if kind > 2 {
+        return Err(ReadStop::Left(bytes.len()));
     }
+    behind(alloc, kind, rest)
+}
+
+/// What stands behind the kind of a cell.
+fn behind(alloc: Global, kind: u8, bytes: &[u8]) -> Result<(Cell, &[u8]), ReadStop>
+    ensures { AnswersUnlessFull read_stop (λ x. (x.0, x.1.now)) result (behind kind bytes.now) }
+{
+    match kind {
+        0 => balance_at(bytes),
+        1 => storage_at(bytes),
+        2 => entry_at(alloc, bytes),
+        _ => Err(ReadStop::Left(bytes.len())),
+    }
+}
+
+/// What stands behind the kind of a balance.
+fn balance_at(bytes: &[u8]) -> Result<(Cell, &[u8]), ReadStop>
+    ensures { AnswersUnlessFull read_stop (λ x. (x.0, x.1.now)) result
+        (made cells.Balance address bytes.now) }
+{
+    match address_at(bytes) {
+        Ok((address, rest)) => Ok((Cell::Balance(address), rest)),
+        Err(stop) => Err(ReadStop::from(stop)),
+    }
+}
+
+/// What stands behind the kind of a storage.
+fn storage_at(bytes: &[u8]) -> Result<(Cell, &[u8]), ReadStop>
+    ensures { AnswersUnlessFull read_stop (λ x. (x.0, x.1.now)) result
+        (made cells.Storage address bytes.now) }
+{
+    match address_at(bytes) {
+        Ok((address, rest)) => Ok((Cell::Storage(address), rest)),
+        Err(stop) => Err(ReadStop::from(stop)),
+    }
+}
+
+/// What stands behind the kind of an entry.
+fn entry_at(alloc: Global, bytes: &[u8]) -> Result<(Cell, &[u8]), ReadStop>
+    ensures { AnswersUnlessFull read_stop (λ x. (x.0, x.1.now)) result (entry bytes.now) }
+{
+    match address_at(bytes) {
+        Ok((address, rest)) => {
+            let (place, rest) = place_at(rest)?;
+            match value_at(alloc, KEY_VALUE, 128, rest) {
+                Ok((key, rest)) => Ok((Cell::Entry(address, place, key), rest)),
+                Err(stop) => Err(stop),
+            }
+        }
+        Err(stop) => Err(ReadStop::from(stop)),
+    }
+}
+
+/// The place of a big map in a storage.
+fn place_at(bytes: &[u8]) -> Result<(u8, &[u8]), Left>
+    ensures { Answers left_stop (λ x. (x.0, x.1.now)) result (place bytes.now) }
+{
+    let (place, rest) = u8_at(bytes)?;
+    if place > 15 {
+        return Err(Left(bytes.len()));
+    }
+    Ok((place, rest))
 }
 
 fn mode_at(bytes: &[u8]) -> Result<(Mode, &[u8]), Left>

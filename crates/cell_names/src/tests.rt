@@ -1,12 +1,12 @@
 use crate::{
-    Cell, Footprint, FormatFault, Mode, conflict, join, order, read_cell, read_footprint,
-    write_cell, write_footprint,
+    Access, Cell, Footprint, Mode, Reply, StoreEnd, Undo, conflict, join, order, read_cell,
+    read_footprint, write_cell, write_footprint,
 };
-use byte_fields::At;
+use byte_fields::{At, FieldFault};
 use std::alloc::Global;
 use std::cmp::Ordering;
 use std::test::Fail;
-use value_core::Address;
+use value_core::{Address, Val, some};
 
 // The kinds of cells and the modes, as docs/FORMATS.md numbers them.
 const BALANCE: u8 = 0x00;
@@ -14,6 +14,13 @@ const BALANCE: u8 = 0x00;
 const STORAGE: u8 = 0x01;
 
 const ENTRY: u8 = 0x02;
+
+// The tags of values that are used here.
+const TRUE: u8 = 0x02;
+
+const SOME: u8 = 0x0b;
+
+const LIST: u8 = 0x0f;
 
 const CREDIT: u8 = 0x01;
 
@@ -124,15 +131,109 @@ fn a_footprint_is_written_and_read(rt: HostRuntime) -> Result<(), Fail> {
     Ok(())
 }
 
+fn entry(alloc: Global, last: u8, place: u8) -> Result<Cell, Fail> {
+    let bytes = address(last);
+    let owner = Address::from_bytes(&bytes).ok().ok_or("no address")?;
+    Ok(Cell::Entry(owner, place, some(alloc, Val::Bool(true))?))
+}
+
+fn storage(last: u8) -> Result<Cell, Fail> {
+    let bytes = address(last);
+    Ok(Cell::Storage(Address::from_bytes(&bytes).ok().ok_or("no address")?))
+}
+
+// What is written of the cell, if that is read again.
+fn written(alloc: Global, cell: &Cell) -> Result<Vec<u8>, Fail> {
+    let mut out = Vec::new(alloc);
+    write_cell(alloc, cell, &mut out)?;
+    let (read, end) = read_cell(alloc, &out, 0).ok().ok_or("refused")?;
+    if end != out.len() || !read.same(cell) {
+        return Err(Fail::from("another cell"));
+    }
+    Ok(out)
+}
+
 #[test]
-fn a_cell_is_written_and_read(rt: HostRuntime) -> Result<(), Fail> {
-    let bytes = joined(rt.alloc(), &[&[BALANCE], &address(10)])?;
-    let mut out = Vec::new(rt.alloc());
-    write_cell(rt.alloc(), &account(10)?, &mut out)?;
-    assert_eq!(rt; out.as_slice(), bytes.as_slice());
-    let (cell, end) = read_cell(&bytes, 0).ok().ok_or("refused")?;
-    assert!(rt; cell.same(&account(10)?));
-    assert_eq!(rt; end, 23);
+fn a_cell_of_each_kind_is_written_and_read(rt: HostRuntime) -> Result<(), Fail> {
+    let alloc = rt.alloc();
+    let owner = address(10);
+    let key: &[u8] = &[SOME, TRUE];
+    let bytes = joined(alloc, &[&[BALANCE], &owner])?;
+    assert_eq!(rt; written(alloc, &account(10)?)?.as_slice(), bytes.as_slice());
+    let bytes = joined(alloc, &[&[STORAGE], &owner])?;
+    assert_eq!(rt; written(alloc, &storage(10)?)?.as_slice(), bytes.as_slice());
+    let bytes = joined(alloc, &[&[ENTRY], &owner, &[15], key])?;
+    assert_eq!(rt;
+        written(alloc, &entry(alloc, 10, 15)?)?.as_slice(),
+        bytes.as_slice()
+    );
+    Ok(())
+}
+
+#[test]
+fn cells_go_by_kind_then_address_then_place_then_key(rt: HostRuntime) -> Result<(), Fail> {
+    let alloc = rt.alloc();
+    let cells = [
+        account(12)?,
+        storage(11)?,
+        entry(alloc, 10, 7)?,
+        entry(alloc, 10, 8)?,
+        entry(alloc, 11, 0)?,
+    ];
+    for i in 0..4 {
+        assert!(rt; order(&cells[i], &cells[i + 1]) == Ordering::Less);
+        assert!(rt; cells[i].copy(alloc)?.same(&cells[i]));
+        assert!(rt; !cells[i].same(&cells[i + 1]));
+    }
+    Ok(())
+}
+
+// What is told of an entry's cell with another byte at the place.
+fn entry_told(alloc: Global, at: usize, byte: u8) -> Result<Option<FieldFault>, Fail> {
+    let mut bytes = written(alloc, &entry(alloc, 10, 0)?)?;
+    if at >= bytes.len() {
+        return Err(Fail::from("no such byte"));
+    }
+    bytes[at] = byte;
+    Ok(read_cell(alloc, &bytes, 0).err())
+}
+
+#[test]
+fn each_fault_of_an_entry_is_told_at_its_field(rt: HostRuntime) -> Result<(), Fail> {
+    // The byte that is changed, what it becomes, and what it is then.
+    let faults: [(usize, u8, &str); 5] = [
+        (0, 3, "a cell of no kind"),
+        (1, 2, "no address"),
+        (23, 16, "no place"),
+        (24, LIST, "a key that is a list"),
+        (25, LIST, "a key with a list in it"),
+    ];
+    for (at, byte, case) in faults {
+        // The address begins at its first byte, so each fault is told where the byte is changed.
+        let fault = entry_told(rt.alloc(), at, byte)?;
+        assert!(rt; fault == Some(FieldFault::At(At(at))), "{case}");
+    }
+    Ok(())
+}
+
+#[test]
+fn accesses_and_what_they_give_are_copied(rt: HostRuntime) -> Result<(), Fail> {
+    let alloc = rt.alloc();
+    let bytes = address(10);
+    let owner = Address::from_bytes(&bytes).ok().ok_or("no address")?;
+    let write = Access::Write(entry(alloc, 10, 0)?, Some(Val::Mutez(5)));
+    assert!(rt; write.copy(alloc)?.same(&write));
+    assert!(rt; !write.same(&Access::Read(entry(alloc, 10, 0)?)));
+    assert!(rt; !Access::Credit(owner, 5).same(&Access::Debit(owner, 5)));
+    let reply = Reply::Value(Some(Val::Mutez(5)));
+    assert!(rt; reply.copy(alloc)?.same(&reply));
+    assert!(rt; !reply.same(&Reply::Low));
+    let undo = Undo::Put(storage(10)?, None);
+    assert!(rt; undo.copy(alloc)?.same(&undo));
+    assert!(rt; !Undo::Uncredit(owner, 5).same(&Undo::Undebit(owner, 5)));
+    let end = StoreEnd::Outside(storage(10)?);
+    assert!(rt; end.copy(alloc)?.same(&end));
+    assert!(rt; !end.same(&StoreEnd::NoMemory));
     Ok(())
 }
 
@@ -154,7 +255,7 @@ fn a_footprint_of_256_cells_is_written_and_read(rt: HostRuntime) -> Result<(), F
 }
 
 // What is told of a transfer's footprint with another byte at the place.
-fn told(alloc: Global, at: usize, byte: u8) -> Result<Option<FormatFault>, Fail> {
+fn told(alloc: Global, at: usize, byte: u8) -> Result<Option<FieldFault>, Fail> {
     let mut bytes = transfer(alloc)?;
     if at >= bytes.len() {
         return Err(Fail::from("no such byte"));
@@ -176,11 +277,7 @@ fn each_fault_is_told_at_its_field(rt: HostRuntime) -> Result<(), Fail> {
     ];
     for (at, byte, place, case) in faults {
         let fault = told(rt.alloc(), at, byte)?;
-        assert!(rt; fault == Some(FormatFault::At(At(place))), "{case}");
-    }
-    for kind in [STORAGE, ENTRY] {
-        let fault = told(rt.alloc(), SECOND, kind)?;
-        assert!(rt; fault == Some(FormatFault::NotYet(SECOND)));
+        assert!(rt; fault == Some(FieldFault::At(At(place))), "{case}");
     }
     Ok(())
 }
