@@ -2,13 +2,13 @@
 use Rattle.std.proofs.Common.{◌≡◌, ℕ, suc, ◌+◌, ◌<◌, ◌^◌, true, eqb, List, ◌∷◌, ◌++◌, length, Option, None, refl, sym, ap, ◌∙◌, arith}
 use Rattle.std.specs.Prelude.{IsTrue, slice_index, nat_le}
 use Rattle.std.specs.List.{flat_map}
-use Rattle.std.specs.Int.{w32, w64, to_be_bytes}
+use Rattle.std.specs.Int.{w8, w32, w64, to_be_bytes}
 use Rattle.std.proofs.lemmas.Bool.{eqb-true, eq-eqb, ltb-true, lt-ltb, le-leb}
 use Rattle.byte_fields.specs.Readers.{number, made, checked, with}
 use Rattle.byte_fields.specs.Laws.{Reads}
 use Rattle.byte_fields.proofs.Joined.{both_reads, built_reads, checked_reads, made_reads, reads_as, with_reads}
 use Rattle.byte_fields.proofs.Lists.{GoodItems, chained_reads}
-use Rattle.byte_fields.proofs.Digits.{wide32}
+use Rattle.byte_fields.proofs.Digits.{wide8, wide32}
 use Rattle.byte_fields.proofs.Numbers.{number_reads}
 use Rattle.value_core.specs.declared.val.Val.{Val}
 use Rattle.value_core.specs.declared.val.Val.TheVariants as variant
@@ -21,19 +21,14 @@ use Rattle.value_codec.specs.Reading.{value}
 use Rattle.value_codec.specs.Spelling.{spell}
 use Rattle.value_codec.proofs.Levels.{IsGood, good_at}
 use Rattle.value_codec.proofs.Spelt.{spell_mutez}
+use Rattle.value_codec.proofs.Rows.{address_reads}
 use Rattle.value_codec.proofs.ValueLaws.{value_reads}
 use Rattle.value_core.proofs.Bools.{both_true, first_true, second_true}
-use Rattle.cell_names.specs.declared.cell.Cell.{Cell}
-use Rattle.cell_names.specs.declared.cell.Cell.TheVariants.{Balance}
 use Rattle.cell_names.specs.Accounts.{IsImplicit, is_implicit}
-use Rattle.cell_names.specs.Cells.{address_of}
-use Rattle.cell_names.specs.Reading.{is_above}
-use Rattle.cell_names.specs.Spelling.{spell_cell, IsCell}
-use Rattle.cell_names.proofs.Grammar.{cell_reads}
 use Rattle.ledger_state.specs.declared.holding.Holding.{Holding}
 use Rattle.ledger_state.specs.Ledger.{pair}
 use Rattle.ledger_state.specs.Spelling.{cell}
-use Rattle.ledger_state.specs.Reading.{Before, next, amount_level, amount_of, is_room, fits, name, amount, holding, cells, contracts, book}
+use Rattle.ledger_state.specs.Reading.{Before, next, amount_level, amount_of, is_room, fits, is_above, kind, account, name, amount, holding, cells, contracts, book}
 
 -- ---- amounts
 
@@ -65,10 +60,10 @@ abbrev amount_bytes : ℕ → List ℕ
 amount_bytes n = 5 ∷ to_be_bytes w64 n
 
 -- the account may have so much
-abbrev pub MayHave : Cell → ℕ → ℕ → Type 0
-MayHave c total n = IsTrue (is_implicit (address_of c)) × IsRoom total n
+abbrev pub MayHave : List ℕ → ℕ → ℕ → Type 0
+MayHave a total n = IsTrue (is_implicit a) × IsRoom total n
 
-amount_read : (d : ℕ) (c : Cell) (total : ℕ) → Reads (made amount_of (checked (fits c total) (value 18 (suc d)))) amount_bytes (MayHave c total)
+amount_read : (d : ℕ) (c : List ℕ) (total : ℕ) → Reads (made amount_of (checked (fits c total) (value 18 (suc d)))) amount_bytes (MayHave c total)
 amount_read d c total =
     made_reads amount_of variant.Mutez amount_bytes (MayHave c total)
     (λ v good.
@@ -80,20 +75,28 @@ amount_read d c total =
     ((mutez_good d n small, both_true _ _ good.0 (ap (is_room total) (amount_of-Mutez n) ∙ room_to total n room)), amount_of-Mutez n))
     (checked_reads (fits c total) ((value_reads 18 (suc d))))
 
-pub amount_reads : (c : Cell) (total : ℕ) → Reads (amount c total) amount_bytes (MayHave c total)
+pub amount_reads : (c : List ℕ) (total : ℕ) → Reads (amount c total) amount_bytes (MayHave c total)
 amount_reads c total = amount_read 127 c total
 
 -- ---- a cell and its value
 
-name_reads : (last : Option Cell) → Reads (name last) spell_cell (λ c. IsCell c × IsTrue (is_above last c))
-name_reads last = checked_reads (is_above last) cell_reads
+kind_reads : Reads kind (to_be_bytes w8) (λ k. k ≡ 0)
+kind_reads =
+    reads_as (to_be_bytes w8) (λ k. k ≡ 0) (λ k good. (refl, eqb-true k 0 good.1))
+    (λ k none. ((omega arith, le-leb k 2 (omega arith)), ap (λ (k : ℕ). eqb k 0) none))
+    (built_reads (λ k. eqb k 0) (checked_reads (λ k. nat_le k 2) (number_reads w8 (2 ^ 8) wide8)))
 
-balance_is : (c : Cell) → c ≡ Balance (address_of c)
-balance_is (Balance a) = refl
+account_reads : Reads account (λ a. 0 ∷ a) (λ a. IsTrue (is_lawful_address a))
+account_reads =
+    made_reads (λ (p : ℕ × List ℕ). p.1) (λ a. (0, a)) (λ a. 0 ∷ a) (λ a. IsTrue (is_lawful_address a))
+    (λ p good. (ap (λ (k : ℕ). to_be_bytes w8 k ++ p.1) good.0, good.1)) (λ a good. ((refl, good), refl)) (both_reads kind_reads address_reads)
+
+name_reads : (last : Option (List ℕ)) → Reads (name last) (λ a. 0 ∷ a) (λ a. IsTrue (is_lawful_address a) × IsTrue (is_above last a))
+name_reads last = checked_reads (is_above last) account_reads
 
 -- an implicit account above the last one
-abbrev pub IsNext : Option Cell → List ℕ → Type 0
-IsNext last a = IsImplicit a × IsTrue (is_above last (Balance a))
+abbrev pub IsNext : Option (List ℕ) → List ℕ → Type 0
+IsNext last a = IsImplicit a × IsTrue (is_above last a)
 
 -- a holding that may stand behind what stands before
 abbrev pub Follows : Before → Holding → Type 0
@@ -102,23 +105,23 @@ Follows before h = IsNext before.0 h.address × IsRoom before.1 h.amount
 implicit_from : (a : List ℕ) → is_lawful_address a ≡ true → is_implicit a ≡ true → IsImplicit a
 implicit_from a lawful implicit = record { lawful = lawful; implicit = eqb-true (slice_index a 0) 0 implicit }
 
--- the holding of a cell that was read
-abbrev IsOf : Cell → ℕ → Holding → Type 0
-IsOf c total h = (c ≡ Balance h.address) × MayHave c total h.amount
+-- the holding of an address that was read
+abbrev IsOf : List ℕ → ℕ → Holding → Type 0
+IsOf a total h = (a ≡ h.address) × MayHave a total h.amount
 
-of_cell : (c : Cell) (total : ℕ) → Reads (made (λ n. let h : Holding = record { address = address_of c; amount = n } in h) (amount c total)) (λ h. amount_bytes h.amount) (IsOf c total)
-of_cell c total =
-    made_reads (λ n. let h : Holding = record { address = address_of c; amount = n } in h) (λ (h : Holding). h.amount) (λ (h : Holding). amount_bytes h.amount) (IsOf c total)
-    (λ n good. (refl, (balance_is c, good)))
-    (λ h good. (good.1, ap (λ (c : Cell). let x : Holding = record { address = address_of c; amount = h.amount } in x) good.0))
-    (amount_reads c total)
+of_account : (a : List ℕ) (total : ℕ) → Reads (made (λ n. let h : Holding = record { address = a; amount = n } in h) (amount a total)) (λ h. amount_bytes h.amount) (IsOf a total)
+of_account a total =
+    made_reads (λ n. let h : Holding = record { address = a; amount = n } in h) (λ (h : Holding). h.amount) (λ (h : Holding). amount_bytes h.amount) (IsOf a total)
+    (λ n good. (refl, (refl, good)))
+    (λ h good. (good.1, ap (λ (a : List ℕ). let x : Holding = record { address = a; amount = h.amount } in x) good.0))
+    (amount_reads a total)
 
 pub holding_reads : (before : Before) → Reads (holding before) (λ h. cell (pair h)) (Follows before)
 holding_reads before =
     reads_as (λ h. cell (pair h)) (Follows before)
     (λ h good. (refl, ((implicit_from h.address good.0.0 good.1.1.0, good.0.1), good.1.1.1)))
     (λ h good. ((good.0.0.lawful, good.0.1), (refl, (eq-eqb (slice_index h.address 0) 0 good.0.0.implicit, good.1))))
-    (with_reads (name_reads before.0) (λ c. of_cell c before.1) (λ (h : Holding). Balance h.address) (λ c h good. sym good.0))
+    (with_reads (name_reads before.0) (λ a. of_account a before.1) (λ (h : Holding). h.address) (λ a h good. sym good.0))
 
 abbrev pub Follow : ℕ → List Holding → Type 0
 Follow = GoodItems Follows next (None, 0)

@@ -15,17 +15,14 @@ use Rattle.byte_fields.proofs.Digits.{wide32, wide64}
 use Rattle.byte_fields.proofs.Numbers.{behind_reads, number_reads}
 use Rattle.value_core.proofs.Bools.{both_true, first_true, second_true}
 use Rattle.value_core.proofs.PlaceLemmas.{is_Less}
-use Rattle.cell_names.specs.declared.cell.Cell.{Cell}
-use Rattle.cell_names.specs.declared.cell.Cell.TheVariants.{Balance}
 use Rattle.cell_names.specs.declared.fault.FormatStop.{FormatStop}
 use Rattle.byte_fields.specs.Told.{AnswersUnlessFull}
 use Rattle.cell_names.specs.Stops.{format_stop}
-use Rattle.cell_names.specs.Reading.{is_above}
 use Rattle.ledger_state.specs.declared.holding.Holding.{Holding}
 use Rattle.ledger_state.specs.Ledger.{BalanceEntry, Ledger, Balances, AreBalances, Ascends, pair}
 use Rattle.ledger_state.specs.Holdings.{AreHoldings, balances_of, ledger_from}
 use Rattle.ledger_state.specs.Spelling.{magic, cell, spelling, IsLedger}
-use Rattle.ledger_state.specs.Reading.{Before, next, book, ledger}
+use Rattle.ledger_state.specs.Reading.{Before, is_above, next, book, ledger}
 use Rattle.ledger_state.proofs.Ascending.{below_all_less}
 use Rattle.ledger_state.proofs.Changing.{R, o, IsFunded, entries_funded, balances_from_entries}
 use Rattle.ledger_state.proofs.HoldingLemmas.{entries-balances_of, unpair, balances_are}
@@ -41,9 +38,9 @@ total_of-cons : (e : BalanceEntry) (es : List BalanceEntry) → total_of (e ∷ 
 total_of-cons e es = sum_by-cons (λ n. n) e.1 (map (λ (e : BalanceEntry). e.1) es)
 
 -- each key is above the last one, where there is one
-abbrev are_above : Option Cell → List BalanceEntry → Bool
+abbrev are_above : Option (List ℕ) → List BalanceEntry → Bool
 are_above None es = true
-are_above (Some (Balance last)) es = below_all R last es
+are_above (Some last) es = below_all R last es
 
 -- what holdings that follow each other are together
 record Together (before : Before) (es : List BalanceEntry) : Type 0 where
@@ -52,17 +49,17 @@ record Together (before : Before) (es : List BalanceEntry) : Type 0 where
   funded : AllByRecursion IsFunded es
   within : before.1 < 2 ^ 63 → before.1 + total_of es < 2 ^ 63
 
-are_above-cons : (last : Option Cell) (e : BalanceEntry) (es : List BalanceEntry) → is_above last (Balance e.0) ≡ true → below_all R e.0 es ≡ true → are_above last (e ∷ es) ≡ true
+are_above-cons : (last : Option (List ℕ)) (e : BalanceEntry) (es : List BalanceEntry) → is_above last e.0 ≡ true → below_all R e.0 es ≡ true → are_above last (e ∷ es) ≡ true
 are_above-cons None e es a h = refl
-are_above-cons (Some (Balance last)) e es a h = both_true _ _ a (below_all_less o last e.0 es (is_Less _ a) h)
+are_above-cons (Some last) e es a h = both_true _ _ a (below_all_less o last e.0 es (is_Less _ a) h)
 
-above_first : (last : Option Cell) (e : BalanceEntry) (es : List BalanceEntry) → are_above last (e ∷ es) ≡ true → is_above last (Balance e.0) ≡ true
+above_first : (last : Option (List ℕ)) (e : BalanceEntry) (es : List BalanceEntry) → are_above last (e ∷ es) ≡ true → is_above last e.0 ≡ true
 above_first None e es h = refl
-above_first (Some (Balance last)) e es h = first_true _ _ h
+above_first (Some last) e es h = first_true _ _ h
 
-none_above : (last : Option Cell) → are_above last [] ≡ true
+none_above : (last : Option (List ℕ)) → are_above last [] ≡ true
 none_above None = refl
-none_above (Some (Balance last)) = refl
+none_above (Some last) = refl
 
 together : (before : Before) (hs : List Holding) → AllAlong Follows next before hs → Together before (map pair hs)
 together before [] h = record { ascend = refl; above = none_above before.0; funded = tt; within = λ lt. omega arith }

@@ -1,6 +1,8 @@
 -- Reading a ledger from the front of its file, and where it stops.
-use Rattle.std.specs.Prelude.{ℕ, ◌+◌, ◌^◌, ◌&&◌, Bool, List, length, Option, Some, None, Result, nat_lt, nat_le, ◌==◌, map}
-use Rattle.std.specs.Int.{w32, w64}
+use Rattle.std.specs.Prelude.{ℕ, ◌+◌, ◌^◌, ◌&&◌, Bool, true, List, length, Option, Some, None, Result, nat_lt, nat_le, ◌==◌, map}
+use Rattle.std.specs.Int.{w8, w32, w64}
+use Rattle.std.specs.Ordering.{is_lt, nat_cmp}
+use Rattle.std.specs.Cmp.Lexicographic.{slice_cmp}
 use Rattle.std.specs.FinMap.{from_sorted}
 use Rattle.byte_fields.specs.Stops.{Stop}
 use Rattle.byte_fields.specs.Readers.{Reader, number, made, both, with, checked, built, chained, behind, whole}
@@ -10,12 +12,8 @@ use Rattle.value_core.specs.declared.val.Val.TheOpen as one
 use Rattle.value_core.specs.declared.val.Val.TheViews.{out-Val}
 use Rattle.value_core.specs.Layer.{Layer}
 use Rattle.value_codec.specs.declared.tag.TheConstants.{ANY_VALUE}
-use Rattle.value_codec.specs.Reading.{value}
-use Rattle.cell_names.specs.declared.cell.Cell.{Cell}
-use Rattle.cell_names.specs.declared.cell.Cell.TheVariants.{Balance}
+use Rattle.value_codec.specs.Reading.{address, value}
 use Rattle.cell_names.specs.Accounts.{is_implicit}
-use Rattle.cell_names.specs.Cells.{address_of}
-use Rattle.cell_names.specs.Reading.{is_above, cell as cell_name}
 use Rattle.ledger_state.specs.declared.holding.Holding.{Holding}
 use Rattle.ledger_state.specs.Ledger.{Ledger, pair}
 use Rattle.ledger_state.specs.Spelling.{magic}
@@ -34,28 +32,41 @@ abbrev pub is_room : ℕ → ℕ → Bool
 is_room total n = nat_lt 0 n && nat_lt (total + n) (2 ^ 63)
 
 -- a value that may stand in a cell behind cells of so much: an amount of an implicit account
-abbrev pub fits : Cell → ℕ → Val → Bool
-fits c total v = is_implicit (address_of c) && is_room total (amount_of v)
+abbrev pub fits : List ℕ → ℕ → Val → Bool
+fits a total v = is_implicit a && is_room total (amount_of v)
 
--- a cell that stands above the last one, told at its first byte
-abbrev pub name : Option Cell → Reader Cell
-name last = checked (is_above last) cell_name
+-- the three kinds of cells, of which balances are built
+abbrev pub kind : Reader ℕ
+kind = built (λ k. k == 0) (checked (λ k. nat_le k 2) (number w8))
+
+-- the address of a balance, behind its kind
+abbrev pub account : Reader (List ℕ)
+account = made (λ p. p.1) (both kind address)
+
+-- the address is above the last one, if there is one
+abbrev pub is_above : Option (List ℕ) → List ℕ → Bool
+is_above None a = true
+is_above (Some last) a = is_lt (slice_cmp nat_cmp last a)
+
+-- a balance that stands above the last one, told at its first byte
+abbrev pub name : Option (List ℕ) → Reader (List ℕ)
+name last = checked (is_above last) account
 
 -- the value of a cell, which is read whole before it is judged
-abbrev pub amount : Cell → ℕ → Reader ℕ
-amount c total = made amount_of (checked (fits c total) (value ANY_VALUE 128))
+abbrev pub amount : List ℕ → ℕ → Reader ℕ
+amount a total = made amount_of (checked (fits a total) (value ANY_VALUE 128))
 
--- what stands before a cell: the last one and the supply so far
+-- what stands before a cell: the address of the last one and the supply so far
 abbrev pub Before : Type 0
-Before = Option Cell × ℕ
+Before = Option (List ℕ) × ℕ
 
 -- what stands before the next cell
 abbrev pub next : Before → Holding → Before
-next before h = (Some (Balance h.address), before.1 + h.amount)
+next before h = (Some h.address, before.1 + h.amount)
 
 -- a cell and its value, by what stands before
 abbrev pub holding : Before → Reader Holding
-holding before = with (name before.0) (λ c. made (λ n. record { address = address_of c; amount = n }) (amount c before.1))
+holding before = with (name before.0) (λ a. made (λ n. record { address = a; amount = n }) (amount a before.1))
 
 -- so many cells
 abbrev pub cells : ℕ → Reader (List Holding)

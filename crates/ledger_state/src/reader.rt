@@ -1,26 +1,23 @@
 //! Reading a ledger from its file.
 
 ghost use Rattle.std.specs.Prelude.{◌≡◌, ◌+◌, ◌*◌, ◌<◌, ◌≤◌, ◌^◌, [], length, IfOk};
-ghost use Rattle.std.specs.Option.{option_map};
-ghost use Rattle.cell_names.specs.declared.cell.Cell.TheVariants.{Balance};
 ghost use Rattle.byte_fields.specs.Laws.{TellsWhole};
 ghost use Rattle.byte_fields.specs.Told.{Answers, AnswersUnlessFull};
 ghost use Rattle.cell_names.specs.Stops.{field_stop, format_stop, format_fault};
-ghost use Rattle.cell_names.specs.Reading.{is_above};
 ghost use Rattle.ledger_state.specs.Holdings.{AreHoldings, ledger_from};
-ghost use Rattle.ledger_state.specs.Reading.{amount, amount_of, book, cells, contracts, holding, ledger, ledger_of, name};
+ghost use Rattle.ledger_state.specs.Reading.{account, amount, amount_of, book, cells, contracts, holding, is_above, ledger, ledger_of, name};
 ghost use Rattle.ledger_state.specs.Spelling.{IsLedger, spelling};
 
 use crate::holding::{CELL, Holding};
 use crate::state::State;
-use byte_fields::{mark_of, u32_at, u64_at};
-use cell_names::{Cell, FieldStop, FormatFault, FormatStop, Head, cell_at, fault_at};
+use byte_fields::{mark_of, u8_at, u32_at, u64_at};
+use cell_names::{FieldStop, FormatFault, FormatStop, Head, fault_at};
 use std::alloc::Global;
-use value_codec::{ANY_VALUE, value_at};
+use value_codec::{ANY_VALUE, address_at, value_at};
 use value_core::{Address, Val};
 
 fn stands_above(last: Option<Address>, address: &Address) -> bool
-    ensures { result ≡ is_above (option_map Balance last) (Balance address.now) }
+    ensures { result ≡ is_above last address.now }
 {
     match last {
         None => true,
@@ -28,14 +25,27 @@ fn stands_above(last: Option<Address>, address: &Address) -> bool
     }
 }
 
+/// The account of a balance; other kinds of cells aren't built.
+fn account_at(bytes: &[u8]) -> Result<(Address, &[u8]), FieldStop>
+    ensures { Answers field_stop (λ x. (x.0, x.1.now)) result (account bytes.now) }
+{
+    let (kind, rest) = u8_at(bytes)?;
+    match kind {
+        0 => match address_at(rest) {
+            Ok((address, rest)) => Ok((address, rest)),
+            Err(stop) => Err(FieldStop::from(stop)),
+        },
+        1 | 2 => Err(FieldStop::NotYet(bytes.len())),
+        _ => Err(FieldStop::Left(bytes.len())),
+    }
+}
+
 /// The account whose balance is named, which has to stand above the last one.
 fn name_at(last: Option<Address>, bytes: &[u8]) -> Result<(Address, &[u8]), FieldStop>
-    ensures { Answers field_stop (λ x. (Balance x.0, x.1.now)) result
-        (name (option_map Balance last) bytes.now) }
+    ensures { Answers field_stop (λ x. (x.0, x.1.now)) result (name last bytes.now) }
 {
-    match cell_at(bytes) {
-        Ok((cell, rest)) => {
-            let Cell::Balance(address) = cell;
+    match account_at(bytes) {
+        Ok((address, rest)) => {
             if !stands_above(last, &address) {
                 return Err(FieldStop::Left(bytes.len()));
             }
@@ -65,7 +75,7 @@ fn amount_at(
     requires { total < 2 ^ 63 }
     ensures within { IfOk result (λ x. total + x.0 < 2 ^ 63) }
     ensures read { AnswersUnlessFull format_stop (λ x. (x.0, x.1.now)) result
-        (amount (Balance address) total bytes.now) }
+        (amount address total bytes.now) }
 {
     let (value, rest) = value_at(alloc, ANY_VALUE, 128, bytes)?;
     let amount = amount_of(&value);
@@ -84,7 +94,7 @@ fn holding_at(
     requires { total < 2 ^ 63 }
     ensures within { IfOk result (λ x. total + x.0.amount < 2 ^ 63) }
     ensures read { AnswersUnlessFull format_stop (λ x. (x.0, x.1.now)) result
-        (holding (option_map Balance last, total) bytes.now) }
+        (holding (last, total) bytes.now) }
 {
     match name_at(last, bytes) {
         Ok((address, rest)) => {

@@ -1,6 +1,4 @@
 use Rattle.std.proofs.Common.{◌≡◌, ◌-◌, ◌<◌, ◌^◌}
-use Rattle.std.specs.Option.{option_map}
-use Rattle.cell_names.specs.declared.cell.Cell.TheVariants.{Balance}
 use Rattle.byte_fields.specs.Readers.{chained}
 use Rattle.byte_fields.proofs.Loops.{with_front}
 use Rattle.ledger_state.specs.Reading.{holding, next, cells}
@@ -9,5 +7,5 @@ use Rattle.ledger_state.proofs.reader.cells_at.Given as goal
 abbrev pub invariant-loop : goal.invariant-loop
 invariant-loop l = record {
   within : l.total < 2 ^ 63;
-  so_far : with_front l.holdings.items (chained holding next (option_map Balance l.last, l.total) (l.count - l.counter) l.rest) ≡ cells l.count l.bytes;
+  so_far : with_front l.holdings.items (chained holding next (l.last, l.total) (l.count - l.counter) l.rest) ≡ cells l.count l.bytes;
 }
