@@ -74,6 +74,11 @@ SENT, SENT_AFTER = block_on(OPENING, [(A, B, 10)])
 assert len(EMPTY) == 84 and len(SENT) == 214 and len(STATE) == 88
 
 
+# The transfer with an entry in place of the credited balance: its place and its key.
+def entry_of_the_receiver(behind):
+    return SENT[:153] + b'\x02' + SENT[154:176] + behind + SENT[176:]
+
+
 def accepted_blocks():
     accepted('empty_block', EMPTY, 1, 60, OPENING)
     accepted('empty_block_with_64_workers', EMPTY, 1, 60, OPENING, words='validate state block next 64')
@@ -111,6 +116,8 @@ def refused_blocks():
     refuses('three_cells', footprint, sent, own_credit + [(T, CREDIT)], (APPLIED,), after=SENT_AFTER)
     refuses('balance_of_a_contract', footprint, sent, [(A, OWN), (CONTRACT, CREDIT)], (APPLIED,), after=SENT_AFTER)
     refuses('empty_footprint', footprint, sent, [], (APPLIED,), after=SENT_AFTER)
+    refused('refused', 'storage_of_the_receiver', edited(SENT, 153, b'\x01'), footprint)
+    refused('refused', 'entry_of_the_receiver', entry_of_the_receiver(b'\x0f\x00'), footprint)
     refuses('empty_footprint_and_failed_receipt', footprint, sent, [], (BALANCE_TOO_LOW,), after=SENT_AFTER)
     refuses('nothing_sent_and_a_footprint', footprint, op_bytes(A, B, 0), own_credit, (APPLIED,))
     refuses('failed_and_the_receiver_touched', footprint, op_bytes(A, B, 101), own_credit, (BALANCE_TOO_LOW,))
@@ -145,6 +152,10 @@ def malformed_blocks():
     malformed('cut_in_the_amount', 105, SENT[:110])
     malformed('one_byte_more', 214, SENT + b'\x00')
     malformed('empty_block_and_one_byte', 84, EMPTY + b'\x00')
+    malformed('a_balance_behind_a_storage', 153, edited(SENT, 129, b'\x01'))
+    malformed('place_16_of_an_entry', 176, entry_of_the_receiver(b'\x10\x00'))
+    malformed('key_that_is_a_list', 177, entry_of_the_receiver(b'\x00\x0f'))
+    malformed('key_with_a_list_in_it', 178, entry_of_the_receiver(b'\x00\x0b\x0f'))
     malformed('two_operations_are_counted', 165, edited(SENT, 48, b'\x00\x00\x00\x02'))
     malformed('513_operations_are_counted', 48, edited(SENT, 48, b'\x00\x00\x02\x01'))
     malformed('source_is_a_contract', 52, edited(SENT, 52, b'\x01'))
@@ -182,8 +193,6 @@ def blocks_not_built_yet():
     not_yet('an_entry_of_31_letters', 96, edited(SENT, 96, b'\x1f'))
     not_yet('param_is_false', 104, edited(SENT, 104, b'\x01'))
     not_yet('param_is_a_map', 104, edited(SENT, 104, b'\x11'))
-    not_yet('storage_cell', 129, edited(SENT, 129, b'\x01'))
-    not_yet('second_cell_is_an_entry', 153, edited(SENT, 153, b'\x02'))
     not_yet('no_such_contract', 177, block_of(sent, own_credit, (2,), after=SENT_AFTER))
     not_yet('too_many_calls', 177, block_of(sent, own_credit, (14,), after=SENT_AFTER))
 
@@ -197,9 +206,16 @@ def blocks_of_many():
         else:
             case('many', name, f'refused: {verdict}\n', 1, words, {'state': STATE, 'block': block})
     balance_of = 'balance 0x{}'.format
+
+    def unordered(name, kind, rest, told):
+        block, _ = block_on(OPENING, too_little, joins=[[], []], footprints=[second, second])
+        own = bytes([OWN])
+        refused('many', name, block.replace(b'\x00' + A + own, kind + A + rest + own), f'Unordered 0 1 {told}')
     too_little = [(A, B, 60), (A, C, 60)]
     first, second = [(A, OWN), (B, CREDIT)], [(A, OWN)]
     many('the_first_leaves_too_little', too_little)
+    unordered('one_storage_without_a_join', b'\x01', b'', f'storage 0x{A.hex()}')
+    unordered('one_entry_without_a_join', b'\x02', b'\x03\x0b\x02', f'entry 0x{A.hex()} 3 0x0b02')
     many('the_first_leaves_too_little_without_its_join', too_little, f'Unordered 0 1 {balance_of(A.hex())}', [[], []])
     many('the_first_leaves_too_little_with_an_empty_footprint', too_little, 'FootprintDiffers 1', [[], [0]], footprints=[first, []])
     many('the_first_leaves_too_little_but_both_are_applied', too_little, 'ReceiptDiffers 1', receipts=[(APPLIED,), (APPLIED,)])
