@@ -27,9 +27,13 @@ pub struct Block {
 }
 
 impl Model for Block {
+    ghost use Rattle.std.specs.Coded.{codes};
+    ghost use Rattle.value_core.specs.contracts.val.Val as val;
     ghost use Rattle.block_codec.specs.Block.{BlockView};
 
     ghost Value = { BlockView };
+
+    ghost coded = { Prim.hlevel (codes, val.the_row.coded) };
 
     ghost view = { λ b. record {
       parent = b.parent;

@@ -88,9 +88,13 @@ struct Published {
 }
 
 impl Model for Published {
+    ghost use Rattle.std.specs.Coded.{codes};
+    ghost use Rattle.value_core.specs.contracts.val.Val as val;
     ghost use Rattle.block_codec.specs.Reading.{Parts};
 
     ghost Value = { Parts };
+
+    ghost coded = { Prim.hlevel (codes, val.the_row.coded) };
 
     ghost view = { λ p. (p.ops.items, (p.joins, (p.footprints.items, p.receipts.items))) };
 }
@@ -192,8 +196,8 @@ fn footprints_at(
     alloc: Global,
     count: u32,
     bytes: &[u8],
-) -> Result<(Vec<Footprint>, &[u8]), FormatStop>
-    ensures { AnswersUnlessFull format_stop (λ x. (x.0.items, x.1.now)) result
+) -> Result<(Vec<Footprint>, &[u8]), ReadStop>
+    ensures { AnswersUnlessFull read_stop (λ x. (x.0.items, x.1.now)) result
         (many footprint count bytes.now) }
 {
     let mut footprints: Vec<Footprint> = Vec::new(alloc);

@@ -19,8 +19,6 @@ const BALANCE: u8 = 0x00;
 
 const STORAGE: u8 = 0x01;
 
-const ENTRY: u8 = 0x02;
-
 const CREDIT: u8 = 0x01;
 
 const OWN: u8 = 0x02;
@@ -265,7 +263,7 @@ fn a_fault_is_told_at_the_first_byte_of_its_field(rt: HostRuntime) -> Result<(),
     let (cells, same) = (257u32.to_be_bytes(), address(0x0a));
     let amount = (1u64 << 63).to_be_bytes();
     let (gas, turns) = (100_000_001u32.to_be_bytes(), 1_000_001u32.to_be_bytes());
-    let table: [(usize, &[u8], usize, &str); 16] = [
+    let table: [(usize, &[u8], usize, &str); 17] = [
         (0, b"G", 0, "another magic"),
         (COUNT, &many, COUNT, "513 operations"),
         (SOURCE, &[CONTRACT], SOURCE, "the source is a contract"),
@@ -285,6 +283,7 @@ fn a_fault_is_told_at_the_first_byte_of_its_field(rt: HostRuntime) -> Result<(),
             SECOND_CELL,
             "a cell as the one before",
         ),
+        (FIRST_CELL, &[STORAGE], SECOND_CELL, "a balance behind a storage"),
         (FIRST_MODE, &[3], FIRST_MODE, "a fourth mode"),
         (RECEIPT, &[15], RECEIPT, "a receipt that there isn't"),
     ];
@@ -299,13 +298,11 @@ fn a_fault_is_told_at_the_first_byte_of_its_field(rt: HostRuntime) -> Result<(),
 
 #[test]
 fn what_is_not_built_is_told_apart(rt: HostRuntime) -> Result<(), Fail> {
-    let table: [(usize, &[u8], &str); 8] = [
+    let table: [(usize, &[u8], &str); 6] = [
         (DEST, &[CONTRACT], "the destination is a contract"),
         (NAME_LENGTH, &[31], "an entry of 31 letters"),
         (NAME, b"D", "the entry Default"),
         (PARAM, &[MAP], "a param that is a map"),
-        (FIRST_CELL, &[STORAGE], "the cell of a storage"),
-        (SECOND_CELL, &[ENTRY], "the cell of a map's entry"),
         (RECEIPT, &[NO_SUCH_CONTRACT], "no such contract"),
         (RECEIPT, &[TOO_MANY_CALLS], "too many calls"),
     ];

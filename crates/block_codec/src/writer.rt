@@ -95,9 +95,16 @@ fn put_footprints(alloc: Global, all: &[Footprint], out: &mut Vec<u8>) -> Result
     ensures { OnOk result (out.new.items ≡ out.old.items ++ flat_map spell_footprint all.now) }
 {
     for footprint in all {
-        write_footprint(alloc, footprint, out)?;
+        put_footprint(alloc, footprint, out)?;
     }
     Ok(())
+}
+
+fn put_footprint(alloc: Global, footprint: &Footprint, out: &mut Vec<u8>) -> Result<(), NoMemory>
+    requires { IsFootprint footprint.now }
+    ensures { OnOk result (out.new.items ≡ out.old.items ++ spell_footprint footprint.now) }
+{
+    write_footprint(alloc, footprint, out)
 }
 
 fn put_receipts(receipts: &[Receipt], out: &mut Vec<u8>) -> Result<(), NoMemory>

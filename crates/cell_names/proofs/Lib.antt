@@ -7,3 +7,4 @@ pub mod Undoing
 pub mod Exchanging
 pub mod Money
 pub mod Writable
+pub mod StopLemmas

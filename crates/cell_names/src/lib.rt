@@ -10,7 +10,8 @@
 //! - `mode`: the modes, `conflict` and `join`. Begin here.
 //! - `cell`: what can be touched, and the order of cells.
 //! - `footprint`: a map from cells to modes, in the order of cells.
-//! - `access`: accesses, replies and undos. `store`: what a store promises.
+//! - `access`: accesses, replies and undos. `effect`: what stands in a cell gives the reply and the
+//!   undo. `store`: what a store promises.
 //! - `writer`, `reader`: the bytes of cells and footprints, one spelling each.
 //! - `fault`: why bytes of a format that isn't all built can't be read; formats above answer by it.
 //! - `head`: the level of a state or a block, and its `now`.
@@ -22,6 +23,7 @@
 
 mod access;
 mod cell;
+mod effect;
 mod fault;
 mod footprint;
 mod head;
@@ -34,6 +36,7 @@ mod writer;
 
 pub use access::{Access, Reply, Undo};
 pub use cell::{Cell, NoMemory, order, order_is_total};
+pub use effect::amount_in;
 pub use fault::{FieldStop, FormatFault, FormatStop, fault_at};
 pub use footprint::{Footprint, MOST_CELLS};
 pub use head::Head;

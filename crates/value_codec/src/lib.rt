@@ -24,7 +24,7 @@ pub use laws::values_have_one_spelling;
 pub use leaves::address_at;
 pub use reader::{read_val, value_at};
 pub use tag::{ANY_VALUE, KEY_VALUE, PASSED_VALUE};
-pub use writer::{put_val, write_val};
+pub use writer::{put_val, spelling, write_val};
 
 #[cfg(test)]
 mod tests;

@@ -1,6 +1,6 @@
 //! Writing values.
 
-ghost use Rattle.std.specs.Prelude.{◌≡◌, ◌≤◌, ◌++◌, ◌∷◌, [], OnOk, OnErr, IsTrue, length};
+ghost use Rattle.std.specs.Prelude.{◌≡◌, ◌≤◌, ◌++◌, ◌∷◌, [], IfOk, OnOk, OnErr, IsTrue, length};
 ghost use Rattle.std.specs.Int.{w8, w64, to_be_bytes};
 ghost use Rattle.std.specs.List.{flat_map, list_all};
 ghost use Rattle.value_core.specs.Lawful.{is_lawful, is_lawful_entry};
@@ -24,6 +24,23 @@ pub fn write_val(alloc: Global, v: &Val, out: &mut Vec<u8>) -> Result<(), NoMemo
 {
     let mut draft = Draft::on(alloc, out);
     let done = put_val(v, &mut draft);
+    draft.close(done, out)
+}
+
+/// The spelling of any value, for texts that tell it; contracts and operations have none.
+pub fn spelling(alloc: Global, v: &Val) -> Result<Vec<u8>, NoMemory>
+    ensures { IfOk result (λ bytes. bytes.items ≡ spell v.now) }
+{
+    let mut bytes = Vec::new(alloc);
+    append(alloc, v, &mut bytes)?;
+    Ok(bytes)
+}
+
+fn append(alloc: Global, v: &Val, out: &mut Vec<u8>) -> Result<(), NoMemory>
+    ensures { OnOk result (out.new.items ≡ out.old.items ++ spell v.now) }
+{
+    let mut draft = Draft::on(alloc, out);
+    let done = put(v, &mut draft);
     draft.close(done, out)
 }
 

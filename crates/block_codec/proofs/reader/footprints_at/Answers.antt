@@ -1,11 +1,11 @@
 -- One item more, or the stop that it meets.
 use Rattle.cell_names.specs.Reading.{footprint}
-use Rattle.cell_names.specs.Stops.{format_stop}
+use Rattle.byte_fields.specs.Told.{read_stop}
 use Rattle.block_codec.proofs.Items.{one_more, stops_all}
 use Rattle.block_codec.proofs.reader.footprints_at.Goals as goal
 
 pub returns-in-Err : goal.returns-in-Err
-returns-in-Err c = stops_all footprint c.loop.footprints.items c.args.count c.loop.counter c.loop.rest.now _ c.loop-test.true c.loop.invariant (format_stop c.in-Err.stop) c.in-Err.ensures
+returns-in-Err c = stops_all footprint c.loop.footprints.items c.args.count c.loop.counter c.loop.rest.now _ c.loop-test.true c.loop.invariant (read_stop c.in-Err.stop) c.in-Err.ensures
 
 pub loop-preserved : goal.loop-preserved
 loop-preserved c =
