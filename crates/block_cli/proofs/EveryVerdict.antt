@@ -6,7 +6,7 @@ use Rattle.std.proofs.lemmas.Bool.{cases_lt}
 use Rattle.std.proofs.lemmas.Slice.Eq.{bytes_eq-Decides}
 use Rattle.std.specs.Str.{bytes_eq}
 use Rattle.cell_names.specs.declared.cell.Cell.{Cell}
-use Rattle.cell_names.specs.declared.cell.Cell.TheVariants.{Balance}
+use Rattle.cell_names.proofs.Puts.{is_one, one_from, is_one-self}
 use Rattle.cell_names.specs.declared.mode.Mode.{Mode}
 use Rattle.cell_names.specs.declared.mode.Mode.TheVariants.{Read, Credit, Own}
 use Rattle.cell_names.specs.Footprints.{ascends}
@@ -42,11 +42,12 @@ either_bytes xs ys = by (bytes_eq xs ys) refl
     by true e = inl ((bytes_eq-Decides xs ys).0 e)
     by false e = inr (λ same. let both : true ≡ false = sym ((bytes_eq-Decides xs ys).1 same) ∙ e in absurd cc)
 
-cell_bytes : (a b : List ℕ) → Balance a ≡ Balance b → a ≡ b
-cell_bytes a b e = cc
-
 either_cell : (c d : Cell) → Either (c ≡ d)
-either_cell (Balance a) (Balance b) = elim (either_bytes a b) [ inl e ↦ inl (ap Balance e) | inr fails ↦ inr (λ e. fails (cell_bytes a b e)) ]
+either_cell c d = by (is_one c d) refl
+  where
+    by : (b : Bool) → is_one c d ≡ b → Either (c ≡ d)
+    by true e = inl (one_from c d e)
+    by false e = inr (λ same. let both : true ≡ false = sym (is_one-self c) ∙ ap (is_one c) same ∙ e in absurd cc)
 
 either_mode : (m n : Mode) → Either (m ≡ n)
 either_mode Read Read = inl refl

@@ -2,8 +2,9 @@
 use Rattle.std.specs.Prelude.{ℕ, List, [], ◌∷◌, ◌++◌, codes}
 use Rattle.std.specs.Fmt.{decimal}
 use Rattle.hex.specs.Hex.{encode_lower}
+use Rattle.value_codec.specs.Spelling.{spell}
 use Rattle.cell_names.specs.declared.cell.Cell.{Cell}
-use Rattle.cell_names.specs.declared.cell.Cell.TheVariants.{Balance}
+use Rattle.cell_names.specs.declared.cell.Cell.TheVariants.{Balance, Storage, Entry}
 use Rattle.ledger_state.specs.Ledger.{Ledger}
 use Rattle.state_digest.specs.Digest.{digest_of}
 use Rattle.block_cli.specs.declared.refusal.Refusal.{Refusal}
@@ -50,9 +51,12 @@ not_yet p = codes "NotYet at " ++ decimal p
 abbrev pub bad_join : ℕ → List ℕ
 bad_join j = codes "BadJoin " ++ decimal j
 
--- the balance of an account
+-- the kind of a cell and its address; of an entry also the place and the bytes of the key
 abbrev pub cell_text : Cell → List ℕ
 cell_text (Balance address) = codes "balance 0x" ++ encode_lower address
+cell_text (Storage address) = codes "storage 0x" ++ encode_lower address
+cell_text (Entry address place key) =
+    codes "entry 0x" ++ encode_lower address ++ codes " " ++ decimal place ++ codes " 0x" ++ encode_lower (spell key)
 
 -- two operations that conflict without an order, and the cell
 abbrev pub unordered : ℕ → ℕ → Cell → List ℕ

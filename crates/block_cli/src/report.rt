@@ -1,6 +1,7 @@
 //! Every line that the program prints.
 ghost use Rattle.std.specs.Prelude.{◌≡◌, ◌++◌, IfOk, OnOk, codes};
 ghost use Rattle.std.specs.Fmt.{decimal};
+ghost use Rattle.hex.specs.Hex.{encode_lower};
 ghost use Rattle.state_digest.specs.Digest.{digest_of};
 ghost use Rattle.block_cli.specs.Report.{line, usage_line, cannot_read_line, cannot_write_line, memory_line, bad_input_line, refused_line, accepted_line, malformed, not_yet, unordered, cell_text, refusal_text};
 ghost use Rattle.block_cli.specs.Seen.{Prints};
@@ -11,7 +12,8 @@ use cell_names::Cell;
 use edge_io::Sink;
 use ledger_state::State;
 use std::alloc::{AllocError, Global};
-use value_core::Address;
+use value_codec::spelling;
+use value_core::{Address, Val};
 
 const USAGE: &[u8] = b"usage: compile SRC OUT | check CODE | genesis TEXT STATE | \
     mine STATE OPS BLOCK NEXT WORKERS | validate STATE BLOCK NEXT WORKERS | show STATE | \
@@ -124,16 +126,36 @@ fn put_cell(alloc: Global, cell: &Cell, text: &mut Vec<u8>) -> Result<(), AllocE
     ensures { OnOk result (text.new.items ≡ text.old.items ++ cell_text cell.now) }
 {
     match cell {
-        Cell::Balance(address) => put_balance(alloc, address, text),
+        Cell::Balance(address) => put_hex(alloc, b"balance 0x", address.bytes(), text),
+        Cell::Storage(address) => put_hex(alloc, b"storage 0x", address.bytes(), text),
+        Cell::Entry(address, place, key) => put_entry(alloc, address, *place, key, text),
     }
 }
 
-fn put_balance(alloc: Global, address: &Address, text: &mut Vec<u8>) -> Result<(), AllocError>
+fn put_entry(
+    alloc: Global,
+    address: &Address,
+    place: u8,
+    key: &Val,
+    text: &mut Vec<u8>,
+) -> Result<(), AllocError>
     ensures { OnOk result
-        (text.new.items ≡ text.old.items ++ cell_text (Cell.Balance address.now)) }
+        (text.new.items ≡ text.old.items ++ cell_text (Cell.Entry address.now place key.now)) }
 {
-    let digits = hex::encode(alloc, address.bytes())?;
-    text.extend_from_slice(b"balance 0x")?;
+    let spelt = spelling(alloc, key)?;
+    put_hex(alloc, b"entry 0x", address.bytes(), text)?;
+    text.push(b' ')?;
+    put_number(alloc, u64::from(place), text)?;
+    put_hex(alloc, b" 0x", &spelt, text)
+}
+
+/// Words, and bytes as hexadecimal digits behind them.
+fn put_hex(alloc: Global, words: &[u8], bytes: &[u8], text: &mut Vec<u8>) -> Result<(), AllocError>
+    ensures { OnOk result
+        (text.new.items ≡ text.old.items ++ (words.now ++ encode_lower bytes.now)) }
+{
+    let digits = hex::encode(alloc, bytes)?;
+    text.extend_from_slice(words)?;
     text.extend_from_slice(digits.as_bytes())
 }
 

@@ -283,7 +283,12 @@ fn a_fault_is_told_at_the_first_byte_of_its_field(rt: HostRuntime) -> Result<(),
             SECOND_CELL,
             "a cell as the one before",
         ),
-        (FIRST_CELL, &[STORAGE], SECOND_CELL, "a balance behind a storage"),
+        (
+            FIRST_CELL,
+            &[STORAGE],
+            SECOND_CELL,
+            "a balance behind a storage",
+        ),
         (FIRST_MODE, &[3], FIRST_MODE, "a fourth mode"),
         (RECEIPT, &[15], RECEIPT, "a receipt that there isn't"),
     ];

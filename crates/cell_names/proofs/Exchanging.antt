@@ -14,7 +14,7 @@ use Rattle.cell_names.specs.declared.mode.Mode.TheVariants as mode
 use Rattle.cell_names.specs.Modes.{conflicts}
 use Rattle.cell_names.specs.Contents.{Contents, amount_in, amount_kept, balance, with_balance}
 use Rattle.cell_names.specs.Effects.{cell_of, mode_needed, after, flight_after}
-use Rattle.cell_names.specs.Stores.{IsCovered}
+use Rattle.cell_names.specs.Conditions.{IsCovered}
 use Rattle.cell_names.specs.Laws.{AreApart, GivesSame, MayBeExchanged}
 use Rattle.cell_names.proofs.Puts.{is_one, one_from, is_one-self, left_in, same_contents, get-with_balance, get-after, get-after_there, get-after_elsewhere}
 use Rattle.cell_names.proofs.Undoing.{cond_twice, balance-with_balance}

@@ -21,7 +21,7 @@ use Rattle.cell_names.specs.CellOrder.{cell_cmp-total, cell_cmp-ties}
 use Rattle.cell_names.specs.Contents.{Contents, put, amount_in, amount_kept, balance, with_balance}
 use Rattle.cell_names.specs.Supply.{money_of, supply}
 use Rattle.cell_names.specs.Effects.{after, flight_after, undone, flight_undone}
-use Rattle.cell_names.specs.Stores.{IsWritable, NamesWritable, IsCovered, HasAmount}
+use Rattle.cell_names.specs.Conditions.{IsWritable, NamesWritable, IsCovered, HasAmount}
 use Rattle.cell_names.specs.Laws.{KeepsMoney, PutsWritable}
 use Rattle.cell_names.proofs.Puts.{is_one, get-put, get-put_there, same_contents}
 use Rattle.cell_names.proofs.Undoing.{amount_in-kept, cond_twice, not_less}

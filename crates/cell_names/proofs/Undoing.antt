@@ -14,7 +14,7 @@ use Rattle.cell_names.specs.declared.access.Undo.{Undo}
 use Rattle.cell_names.specs.declared.access.Undo.TheVariants as undo
 use Rattle.cell_names.specs.Contents.{Contents, put, amount_level, amount_of, amount_in, amount_kept, balance, with_balance, IsTidy}
 use Rattle.cell_names.specs.Effects.{after, undone, flight_undone}
-use Rattle.cell_names.specs.Stores.{IsWritable, NamesWritable, IsCovered, HasAmount}
+use Rattle.cell_names.specs.Conditions.{IsWritable, NamesWritable, IsCovered, HasAmount}
 use Rattle.cell_names.specs.Laws.{IsTakenBack, PutsWritable}
 use Rattle.cell_names.proofs.Puts.{is_one, one_from, is_one-self, get-put, same_contents, get-with_balance}
 

@@ -8,7 +8,7 @@ use Rattle.cell_names.specs.Modes.{conflicts}
 use Rattle.cell_names.specs.Contents.{Contents}
 use Rattle.cell_names.specs.Supply.{supply}
 use Rattle.cell_names.specs.Effects.{cell_of, mode_needed, reply_to, after, flight_after, undo_of, undone, flight_undone}
-use Rattle.cell_names.specs.Stores.{IsWritable, HasAmount}
+use Rattle.cell_names.specs.Conditions.{IsWritable, HasAmount}
 
 -- its undo takes the access back: cells and flight are as before, and the amounts that it needs are there
 pub record IsTakenBack (a : Access) (m : Contents) (f : ℕ) : Type 0 where

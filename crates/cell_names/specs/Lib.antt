@@ -8,6 +8,7 @@ pub mod Stops
 pub mod Reading
 pub mod Contents
 pub mod Effects
+pub mod Conditions
 pub mod Stores
 pub mod Supply
 pub mod Laws

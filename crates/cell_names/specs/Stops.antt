@@ -1,4 +1,4 @@
--- The stops that answers about cells and footprints tell, and none where memory ran out.
+-- The stops that answers about formats tell, and none where memory ran out.
 use Rattle.std.specs.Prelude.{ℕ, ◌-◌, Option, Some, None}
 use Rattle.byte_fields.specs.declared.fault.ReadStop.{ReadStop}
 use Rattle.byte_fields.specs.declared.fault.ReadStop.TheVariants as reads

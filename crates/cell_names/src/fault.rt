@@ -1,4 +1,4 @@
-//! Why bytes are no cell or footprint.
+//! Why bytes of a format can't be read, where not all of the format is built.
 
 ghost use Rattle.std.specs.Prelude.{◌≡◌};
 ghost use Rattle.cell_names.specs.declared.fault.FieldStop.TheVariants as fields;
@@ -11,11 +11,9 @@ use std::alloc::{AllocError, AllocFailed};
 /// Where reading stopped, inside a format, of what takes no memory.
 #[derive(Clone, Copy, Debug, PartialEq, Eq)]
 pub enum FieldStop {
-    /// A field misses bytes or breaks its rule, as a kind 03: so many bytes are left at its first
-    /// byte.
+    /// A field misses bytes or breaks its rule: so many bytes are left at its first byte.
     Left(usize),
-    /// A field is lawful and isn't built yet, as a kind 01: so many bytes are left at its first
-    /// byte.
+    /// A field is lawful and isn't built yet: so many bytes are left at its first byte.
     NotYet(usize),
 }
 
@@ -24,11 +22,9 @@ pub enum FieldStop {
 pub enum FormatStop {
     /// Memory ran out, as for a list's items.
     NoMemory,
-    /// A field misses bytes or breaks its rule, as a kind 03: so many bytes are left at its first
-    /// byte.
+    /// A field misses bytes or breaks its rule: so many bytes are left at its first byte.
     Left(usize),
-    /// A field is lawful and isn't built yet, as a kind 01: so many bytes are left at its first
-    /// byte.
+    /// A field is lawful and isn't built yet: so many bytes are left at its first byte.
     NotYet(usize),
 }
 
@@ -89,13 +85,11 @@ impl<T: Drop> From<AllocFailed<T>> for FormatStop {
 /// Why bytes could not be read.
 #[derive(Clone, Copy, Debug, PartialEq, Eq)]
 pub enum FormatFault {
-    /// The first byte of the first field that misses bytes or breaks its rule: `At(0)` for the cell
-    /// `03`, and `At(1)` for `00` with an address of 21 bytes.
+    /// The first byte of the first field that misses bytes or breaks its rule.
     At(At),
-    /// The first byte of a field that isn't built yet, where all before it keeps the rules:
-    /// `NotYet(0)` for the cell `01`.
+    /// The first byte of a field that isn't built yet, where all before it keeps the rules.
     NotYet(usize),
-    /// Memory ran out, as for the touches of a footprint; a cell takes none.
+    /// Memory ran out.
     NoMemory,
 }
 

@@ -10,7 +10,7 @@ ghost use Rattle.cell_names.specs.Spelling.{spell_cell, spell_footprint, IsCell,
 ghost use Rattle.cell_names.specs.Reading.{cell, footprint};
 ghost use Rattle.cell_names.specs.Contents.{Contents, IsTidy};
 ghost use Rattle.cell_names.specs.Effects.{cell_of, after, flight_after, undone, flight_undone};
-ghost use Rattle.cell_names.specs.Stores.{IsCovered, NamesWritable, HasAmount};
+ghost use Rattle.cell_names.specs.Conditions.{IsCovered, NamesWritable, HasAmount};
 ghost use Rattle.cell_names.specs.Laws.{AreApart, GivesSame, IsTakenBack, KeepsMoney, MayBeExchanged, PutsWritable};
 
 /// A cell is read exactly from its spelling, and no spelling begins another.

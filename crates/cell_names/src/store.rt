@@ -2,7 +2,8 @@
 
 ghost use Rattle.std.specs.Prelude.{◌≡◌, ◌↔◌, IsTrue, IfOk};
 ghost use Rattle.cell_names.specs.declared.store.StoreEnd.TheVariants as ends;
-ghost use Rattle.cell_names.specs.Stores.{Seen, CanAccess, Accesses, CanUndo, Undoes};
+ghost use Rattle.cell_names.specs.Conditions.{Seen, CanAccess, CanUndo};
+ghost use Rattle.cell_names.specs.Stores.{Accesses, Undoes};
 
 use crate::access::{Access, Reply, Undo};
 use crate::cell::{Cell, NoMemory};

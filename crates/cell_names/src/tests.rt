@@ -1,6 +1,8 @@
+ghost use Rattle.cell_names.specs.Spelling.{IsCell, IsFootprint};
+
 use crate::{
-    Access, Cell, Footprint, Mode, Reply, StoreEnd, Undo, conflict, join, order, read_cell,
-    read_footprint, write_cell, write_footprint,
+    Access, Cell, Footprint, Mode, Reply, StoreEnd, Undo, amount_in, conflict, join, order,
+    read_cell, read_footprint, write_cell, write_footprint,
 };
 use byte_fields::{At, FieldFault};
 use std::alloc::Global;
@@ -115,19 +117,32 @@ fn transfer(alloc: Global) -> Result<Vec<u8>, Fail> {
     )
 }
 
+// What is written of a footprint that was read.
+fn footprint_bytes(alloc: Global, touches: &Footprint) -> Result<Vec<u8>, Fail>
+    requires { IsFootprint touches.now }
+{
+    let mut out = Vec::new(alloc);
+    write_footprint(alloc, touches, &mut out)?;
+    Ok(out)
+}
+
+// Whether the bytes are the footprint's, read and written.
+fn spell_all(alloc: Global, bytes: &[u8], touches: &Footprint) -> Result<bool, Fail> {
+    match read_footprint(alloc, bytes, 0) {
+        Ok((read, end)) => {
+            let written = footprint_bytes(alloc, &read)?;
+            Ok(end == bytes.len() && read.same(touches) && written.as_slice() == bytes)
+        }
+        Err(_) => Ok(false),
+    }
+}
+
 #[test]
 fn a_footprint_is_written_and_read(rt: HostRuntime) -> Result<(), Fail> {
     let bytes = transfer(rt.alloc())?;
     let made = footprint(rt.alloc(), &[(11, Mode::Credit), (10, Mode::Own)])?;
-    assert_eq!(rt; made.len(), 2);
-    let mut out = Vec::new(rt.alloc());
-    write_footprint(rt.alloc(), &made, &mut out)?;
-    assert_eq!(rt; out.as_slice(), bytes.as_slice());
-    let (read, end) = read_footprint(rt.alloc(), &bytes, COUNT)
-        .ok()
-        .ok_or("refused")?;
-    assert!(rt; read.same(&made));
-    assert_eq!(rt; end, END);
+    assert_eq!(rt; bytes.len(), END);
+    assert!(rt; spell_all(rt.alloc(), &bytes, &made)?);
     Ok(())
 }
 
@@ -142,31 +157,36 @@ fn storage(last: u8) -> Result<Cell, Fail> {
     Ok(Cell::Storage(Address::from_bytes(&bytes).ok().ok_or("no address")?))
 }
 
-// What is written of the cell, if that is read again.
-fn written(alloc: Global, cell: &Cell) -> Result<Vec<u8>, Fail> {
+// What is written of a cell that was read.
+fn cell_bytes(alloc: Global, cell: &Cell) -> Result<Vec<u8>, Fail>
+    requires { IsCell cell.now }
+{
     let mut out = Vec::new(alloc);
     write_cell(alloc, cell, &mut out)?;
-    let (read, end) = read_cell(alloc, &out, 0).ok().ok_or("refused")?;
-    if end != out.len() || !read.same(cell) {
-        return Err(Fail::from("another cell"));
-    }
     Ok(out)
+}
+
+// Whether the bytes are the cell's, read and written.
+fn spell(alloc: Global, bytes: &[u8], cell: &Cell) -> Result<bool, Fail> {
+    match read_cell(alloc, bytes, 0) {
+        Ok((read, end)) => {
+            let written = cell_bytes(alloc, &read)?;
+            Ok(end == bytes.len() && read.same(cell) && written.as_slice() == bytes)
+        }
+        Err(_) => Ok(false),
+    }
 }
 
 #[test]
 fn a_cell_of_each_kind_is_written_and_read(rt: HostRuntime) -> Result<(), Fail> {
     let alloc = rt.alloc();
     let owner = address(10);
-    let key: &[u8] = &[SOME, TRUE];
     let bytes = joined(alloc, &[&[BALANCE], &owner])?;
-    assert_eq!(rt; written(alloc, &account(10)?)?.as_slice(), bytes.as_slice());
+    assert!(rt; spell(alloc, &bytes, &account(10)?)?);
     let bytes = joined(alloc, &[&[STORAGE], &owner])?;
-    assert_eq!(rt; written(alloc, &storage(10)?)?.as_slice(), bytes.as_slice());
-    let bytes = joined(alloc, &[&[ENTRY], &owner, &[15], key])?;
-    assert_eq!(rt;
-        written(alloc, &entry(alloc, 10, 15)?)?.as_slice(),
-        bytes.as_slice()
-    );
+    assert!(rt; spell(alloc, &bytes, &storage(10)?)?);
+    let bytes = joined(alloc, &[&[ENTRY], &owner, &[15, SOME, TRUE]])?;
+    assert!(rt; spell(alloc, &bytes, &entry(alloc, 10, 15)?)?);
     Ok(())
 }
 
@@ -190,7 +210,7 @@ fn cells_go_by_kind_then_address_then_place_then_key(rt: HostRuntime) -> Result<
 
 // What is told of an entry's cell with another byte at the place.
 fn entry_told(alloc: Global, at: usize, byte: u8) -> Result<Option<FieldFault>, Fail> {
-    let mut bytes = written(alloc, &entry(alloc, 10, 0)?)?;
+    let mut bytes = joined(alloc, &[&[ENTRY], &address(10), &[0, SOME, TRUE]])?;
     if at >= bytes.len() {
         return Err(Fail::from("no such byte"));
     }
@@ -238,19 +258,48 @@ fn accesses_and_what_they_give_are_copied(rt: HostRuntime) -> Result<(), Fail> {
 }
 
 #[test]
+fn what_stands_in_a_cell_tells_reply_and_undo(rt: HostRuntime) -> Result<(), Fail> {
+    let alloc = rt.alloc();
+    let bytes = address(10);
+    let owner = Address::from_bytes(&bytes).ok().ok_or("no address")?;
+    let held = Some(Val::Mutez(5));
+    assert_eq!(rt; amount_in(&held), 5);
+    assert_eq!(rt; amount_in(&None), 0);
+    let (all, more) = (Access::Debit(owner, 5), Access::Debit(owner, 6));
+    assert!(rt; all.reply(alloc, &held)?.same(&Reply::Done));
+    assert!(rt; all.undo(alloc, &held)?.same(&Undo::Undebit(owner, 5)));
+    assert!(rt; more.reply(alloc, &held)?.same(&Reply::Low));
+    assert!(rt; more.undo(alloc, &held)?.same(&Undo::Nothing));
+    let credit = Access::Credit(owner, 3);
+    assert!(rt; credit.reply(alloc, &held)?.same(&Reply::Done));
+    assert!(rt; credit.undo(alloc, &held)?.same(&Undo::Uncredit(owner, 3)));
+    let write = Access::Write(storage(10)?, Some(Val::Unit));
+    assert!(rt;
+        write
+            .undo(alloc, &None)?
+            .same(&Undo::Put(storage(10)?, None))
+    );
+    let read = Access::Read(account(10)?);
+    assert!(rt;
+        read.reply(alloc, &held)?
+            .same(&Reply::Value(Some(Val::Mutez(5))))
+    );
+    assert!(rt; read.undo(alloc, &held)?.same(&Undo::Nothing));
+    Ok(())
+}
+
+#[test]
 fn a_footprint_of_256_cells_is_written_and_read(rt: HostRuntime) -> Result<(), Fail> {
     let mut made = Footprint::new(rt.alloc());
+    let mut bytes = Vec::from_slice(rt.alloc(), &256u32.to_be_bytes())?;
     for last in 0..=255u8 {
         made.touch(rt.alloc(), &account(last)?, Mode::Own)?;
+        bytes.push(BALANCE)?;
+        bytes.extend_from_slice(&address(last))?;
+        bytes.push(OWN)?;
     }
     assert_eq!(rt; made.len(), 256);
-    let mut out = Vec::new(rt.alloc());
-    write_footprint(rt.alloc(), &made, &mut out)?;
-    // The count, and 256 times a kind, an address and a mode.
-    assert_eq!(rt; out.len(), 4 + 256 * 24);
-    let (read, end) = read_footprint(rt.alloc(), &out, 0).ok().ok_or("refused")?;
-    assert!(rt; read.same(&made));
-    assert_eq!(rt; end, 4 + 256 * 24);
+    assert!(rt; spell_all(rt.alloc(), &bytes, &made)?);
     Ok(())
 }
 

@@ -2,7 +2,9 @@ ghost use Rattle.std.specs.Prelude.{◌≤◌, IfOk, IsTrue};
 ghost use Rattle.value_core.specs.Depth.{depth_of};
 ghost use Rattle.value_core.specs.Sound.{is_plain};
 
-use crate::{ANY_VALUE, At, FieldFault, KEY_VALUE, PASSED_VALUE, read_val, value_at, write_val};
+use crate::{
+    ANY_VALUE, At, FieldFault, KEY_VALUE, PASSED_VALUE, read_val, spelling, value_at, write_val,
+};
 use byte_fields::ReadStop;
 use std::alloc::{AllocError, Global};
 use std::test::Fail;
@@ -29,6 +31,7 @@ fn a_pair_is_written_and_read_again(rt: HostRuntime) -> Result<(), Fail> {
     let mut out = Vec::from_slice(rt.alloc(), &[9])?;
     write_val(rt.alloc(), &value, &mut out)?;
     assert_eq!(rt; &out[1..], SPELT.as_slice());
+    assert_eq!(rt; spelling(rt.alloc(), &value)?.as_slice(), SPELT.as_slice());
     let (again, end) = read_val(rt.alloc(), &out, 1)?;
     assert!(rt; again.same(&value));
     assert_eq!(rt; end, 26);
