@@ -1,4 +1,4 @@
-//! What is true of the bytes of cells and footprints; and of accesses and undos, whatever the store.
+//! What is true of the bytes of cells and footprints, and of accesses, whatever the store.
 
 ghost use Rattle.std.specs.Prelude.{◌≡◌, ◌≢◌, ℕ};
 ghost use Rattle.std.specs.FinMap.{get};
