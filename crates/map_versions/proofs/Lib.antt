@@ -1,0 +1,4 @@
+pub mod BetweenLaws
+pub mod NodeLaws
+pub mod ForestLaws
+pub mod RootLaws
