@@ -1,0 +1,10 @@
+pub mod Powers
+pub mod KeyLaws
+pub mod RowLaws
+pub mod ChangeLaws
+pub mod PairLaws
+pub mod PartLaws
+pub mod StackLaws
+pub mod OldLaws
+pub mod TableLaws
+pub mod Remainders

@@ -1,0 +1,10 @@
+-- what the public contracts rest on
+pub mod Form
+pub mod Applies
+-- what functions inside promise each other
+pub mod Tells
+pub mod Settled
+pub mod Operands
+pub mod AgainstZero
+pub mod Pairing
+pub mod Changes
