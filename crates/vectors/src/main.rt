@@ -10,12 +10,17 @@
 //! - `nodes`: Micheline text, read and printed.
 //! - `scripts`: scripts and data, read and printed.
 //! - `typing`: scripts that may run, and the faults of others.
+//! - `apply`: data instructions on a stack.
+//! - `run`, `ledger`: metered runs, and what answers their questions.
 //! - `faults`: how a fault is answered.
 #![tactic(auto)]
 
 mod answer;
+mod apply;
 mod faults;
+mod ledger;
 mod nodes;
+mod run;
 mod scripts;
 mod typing;
 mod values;
@@ -35,6 +40,8 @@ fn answer_to(alloc: Global, line: &str) -> Result<Vec<u8>, AllocError> {
         Some((call, word)) if call == "nodes" => return nodes::answer(alloc, word),
         Some((call, words)) if is_of_scripts(call) => return scripts::answer(alloc, call, words),
         Some((call, word)) if call == "check" => return typing::answer(alloc, word),
+        Some((call, words)) if call == "apply" => return apply::answer(alloc, words),
+        Some((call, words)) if call == "run" => return run::answer(alloc, words),
         Some((call, words)) => values::answer(alloc, call, words)?,
         None => Answer::NoCase,
     };

@@ -1,21 +1,15 @@
 //! Cases of scripts and data: what is printed or spelt of what is read, or the fault.
 
-ghost use Rattle.std.specs.Prelude.{◌≤◌, ◌<◌, ◌^◌, IsTrue, length};
-ghost use Rattle.std.specs.List.{All};
+ghost use Rattle.std.specs.Prelude.{◌≤◌, ◌<◌, ◌^◌, length};
 ghost use Rattle.value_core.specs.BigMaps.{big_maps_of};
-ghost use Rattle.value_core.specs.Sound.{is_plain};
 
 use crate::faults;
-use crate::words::bytes_of;
+use crate::words::{bytes_of, put_hex, put_value, type_of};
 use data_nodes::{DataRefusal, has_few_big_maps, print_data, read_data, read_storage};
 use micheline_text::{Node, TextFault, read_nodes};
-use michelson_reader::{ReadFault, print_script, read_script};
+use michelson_reader::{print_script, read_script};
 use std::alloc::{AllocError, Global};
-use value_codec::write_val;
-use value_core::{Ty, Val, is_within_depth};
-
-/// The depth to which values are written as bytes.
-const DEEPEST: u32 = 128;
+use value_core::{Ty, Val};
 
 /// The answer to a case of this table, and `no case` to any other line.
 pub fn answer(alloc: Global, call: &str, words: &str) -> Result<Vec<u8>, AllocError> {
@@ -47,35 +41,12 @@ fn ok(alloc: Global, text: &[u8]) -> Result<Vec<u8>, AllocError> {
     Ok(out)
 }
 
-fn put_hex(alloc: Global, bytes: &[u8], out: &mut Vec<u8>) -> Result<(), AllocError> {
-    let digits = hex::encode(alloc, bytes)?;
-    out.extend_from_slice(digits.as_bytes())
-}
-
 fn script(alloc: Global, text: &[u8]) -> Result<Vec<u8>, AllocError>
     requires { length text.now < 2 ^ 32 }
 {
     match read_script(alloc, text) {
         Ok(script) => ok(alloc, &print_script(alloc, &script)?),
         Err(fault) => faults::of_script(alloc, &fault),
-    }
-}
-
-/// The type that a word writes: it is read as the parameter of a script.
-fn type_of(alloc: Global, word: &str) -> Result<Option<Ty>, AllocError> {
-    let Some(t) = bytes_of(alloc, word)? else {
-        return Ok(None);
-    };
-    let mut text = Vec::from_slice(alloc, b"parameter (")?;
-    text.extend_from_slice(&t)?;
-    text.extend_from_slice(b") ; storage unit ; code {}")?;
-    if text.len() >= 0x1_0000_0000 {
-        return Ok(None);
-    }
-    match read_script(alloc, &text) {
-        Ok(script) => Ok(Some(script.param)),
-        Err(ReadFault::NoMemory) => Err(AllocError),
-        Err(_) => Ok(None),
     }
 }
 
@@ -114,7 +85,6 @@ fn data(alloc: Global, t: &Ty, node: &Node) -> Result<Vec<u8>, AllocError> {
     }
 }
 
-#[tactic(auto, using(crate::proofs::Everywhere::at_each))]
 fn storage(alloc: Global, t: &Ty, node: &Node) -> Result<Vec<u8>, AllocError>
     requires { length (big_maps_of t.now) ≤ 16 }
 {
@@ -133,9 +103,7 @@ fn put_entries(
     alloc: Global,
     entries: &[(u8, Val, Val)],
     out: &mut Vec<u8>,
-) -> Result<(), AllocError>
-    requires { All (λ e. IsTrue (is_plain e.1) × IsTrue (is_plain e.2)) entries.now }
-{
+) -> Result<(), AllocError> {
     for entry in entries {
         let place = entry.0;
         let text = format!(in alloc; " {place}:")?;
@@ -145,16 +113,4 @@ fn put_entries(
         put_value(alloc, &entry.2, out)?;
     }
     Ok(())
-}
-
-/// The spelling of a value, and `-` where it is too deep for one.
-fn put_value(alloc: Global, v: &Val, out: &mut Vec<u8>) -> Result<(), AllocError>
-    requires { IsTrue (is_plain v.now) }
-{
-    if !is_within_depth(v, DEEPEST) {
-        return out.extend_from_slice(b"-");
-    }
-    let mut bytes = Vec::new(alloc);
-    write_val(alloc, v, &mut bytes)?;
-    put_hex(alloc, &bytes, out)
 }

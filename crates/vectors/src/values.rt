@@ -1,12 +1,12 @@
 //! Cases of bytes of values, of their order, and of the small checked types.
 
 use crate::answer::Answer;
-use crate::words::bytes_of;
+use crate::words::{bytes_of, value_of};
 use byte_fields::{At, FieldFault};
 use std::alloc::{AllocError, Global};
 use std::cmp::Ordering;
 use value_codec::read_val;
-use value_core::{Address, AddressFault, Blob, Name, Num, Text, Val, compare, size};
+use value_core::{Address, AddressFault, Blob, Name, Num, Text, compare, size};
 
 /// The answer to a case of this table, and `no case` to any other line.
 pub fn answer(alloc: Global, call: &str, words: &str) -> Result<Answer, AllocError> {
@@ -62,24 +62,12 @@ fn order(alloc: Global, words: &str) -> Result<Answer, AllocError> {
     let Some((first, second)) = words.split_once(' ') else {
         return Ok(Answer::NoCase);
     };
-    match (one_value(alloc, first)?, one_value(alloc, second)?) {
+    match (value_of(alloc, first)?, value_of(alloc, second)?) {
         (Some(a), Some(b)) => Ok(match compare(&a, &b) {
             Ordering::Less => Answer::Less,
             Ordering::Equal => Answer::Equal,
             Ordering::Greater => Answer::Greater,
         }),
         _ => Ok(Answer::NoCase),
-    }
-}
-
-/// The value that the bytes of a word spell, all of them.
-fn one_value(alloc: Global, word: &str) -> Result<Option<Val>, AllocError> {
-    let Some(bytes) = bytes_of(alloc, word)? else {
-        return Ok(None);
-    };
-    match read_val(alloc, &bytes, 0) {
-        Ok((v, end)) if end == bytes.len() => Ok(Some(v)),
-        Ok(_) | Err(FieldFault::At(_)) => Ok(None),
-        Err(FieldFault::NoMemory) => Err(AllocError),
     }
 }
