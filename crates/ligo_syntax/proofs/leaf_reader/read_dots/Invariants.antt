@@ -1,0 +1,14 @@
+use Rattle.std.proofs.Common.{◌≡◌, ◌∷◌, [], ◌-◌, ◌≤◌, length}
+use Rattle.ligo_tokens.specs.declared.token.Kind.TheVariants as kind
+use Rattle.ligo_syntax.specs.Classes.{link_kinds}
+use Rattle.ligo_syntax.specs.Depth.{expr_depth}
+use Rattle.ligo_syntax.specs.Readers.{links, key}
+use Rattle.ligo_syntax.specs.Reading.{token}
+use Rattle.ligo_syntax.specs.Trees.{dotted}
+use Rattle.ligo_syntax.proofs.leaf_reader.read_dots.Given as goal
+
+abbrev pub invariant-loop : goal.invariant-loop
+invariant-loop l =
+    (links expr_depth l.depth dotted (kind.Dot ∷ []) (key kind.Dot (token link_kinds)) (length l.tokens - l.counter) l.made l.rest
+    ≡ links expr_depth l.depth dotted (kind.Dot ∷ []) (key kind.Dot (token link_kinds)) (length l.tokens) l.fn.first l.tokens)
+    × (l.made.depth ≤ l.depth)
