@@ -1,6 +1,6 @@
 -- Sets and maps of values by the places of their keys.
-use Rattle.std.proofs.Common.{◌≡◌, ℕ, zero, suc, ◌+◌, ◌<◌, true, List, [], ◌∷◌, length, get_or, Result, Ok, Err, Some, None, refl, sym, ap, ◌∙◌, arith}
-use Rattle.std.specs.Prelude.{remove, is_ok, slice_get}
+use Rattle.std.proofs.Common.{◌≡◌, ℕ, zero, suc, ◌+◌, ◌<◌, true, List, [], ◌∷◌, length, get_or, Result, Ok, Err, Some, None, refl, sym, ap, subst, ◌∙◌, arith}
+use Rattle.std.specs.Prelude.{IsTrue, remove, is_ok, slice_get}
 use Rattle.std.specs.declared.cmp.Ordering.TheVariants.{Less}
 use Rattle.std.specs.Ordering.{is_lt}
 use Rattle.std.specs.List.Sorted.{IsBinarySearchResult, IsSearchInRange, IsSortedBy}
@@ -23,6 +23,10 @@ in_order es up = sym (ascends-keys es) ∙ up
 
 pub map_stands : (es : List (Val × Val)) (q : Val) (r : Result ℕ ℕ) → ascends (keys_of es) ≡ true → IsSearchInRange r (length es) → IsBinarySearchResult (λ e. order e.0 q) es r → StandsAt (λ e. e.0) order es q r
 map_stands es q r up within found = stands total ties (λ e. e.0) es q r (sorted_by total es (in_order es up)) within found
+
+-- a place found where the list is ascending, as a place of a list that is it
+pub map_found : (l es : List (Val × Val)) (q : Val) (r : Result ℕ ℕ) → l ≡ es → IsTrue (ascends (keys_of es)) → (IsTrue (ascends (keys_of l)) → StandsAt (λ e. e.0) order l q r) → StandsAt (λ e. e.0) order es q r
+map_found l es q r same up found = subst (λ (m : List (Val × Val)). IsTrue (ascends (keys_of m)) → StandsAt (λ e. e.0) order m q r) same found up
 
 pub map_at : (es : List (Val × Val)) (q : Val) (i : ℕ) (d : Val × Val) → ascends (keys_of es) ≡ true → IsPlace (λ e. e.0) es q i → Some (get_or es i d).1 ≡ find order q es
 map_at es q i d up p = sym (find-place total es q i d (in_order es up) p)
@@ -64,6 +68,9 @@ set_rises vs j k d up lt small =
 
 pub set_stands : (vs : List Val) (q : Val) (r : Result ℕ ℕ) → ascends vs ≡ true → IsSearchInRange r (length vs) → IsBinarySearchResult (λ v. order v q) vs r → StandsAt (λ v. v) order vs q r
 set_stands vs q r up within found = stands total ties (λ v. v) vs q r (set_sorted vs up) within found
+
+pub set_found : (l vs : List Val) (q : Val) (r : Result ℕ ℕ) → l ≡ vs → IsTrue (ascends vs) → (IsTrue (ascends l) → StandsAt (λ v. v) order l q r) → StandsAt (λ v. v) order vs q r
+set_found l vs q r same up found = subst (λ m. IsTrue (ascends m) → StandsAt (λ v. v) order m q r) same found up
 
 pub set_told : (vs : List Val) (q : Val) (r : Result ℕ ℕ) → StandsAt (λ v. v) order vs q r → is_ok r ≡ has order q vs
 set_told vs q (Ok i) p = sym (has-place total vs q i p)

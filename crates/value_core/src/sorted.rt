@@ -1,6 +1,7 @@
 //! Ascending lists of values as sets and maps: keys are found by halving, and put and taken out.
 
-ghost use Rattle.std.specs.Prelude.{◌≡◌, IsTrue};
+ghost use Rattle.std.specs.Prelude.{◌≡◌, IsTrue, length};
+ghost use Rattle.std.specs.List.Sorted.{IsSearchInRange};
 ghost use Rattle.std.specs.Option.{option_copied};
 ghost use Rattle.value_core.specs.Order.{order};
 ghost use Rattle.value_core.specs.Places.{StandsAt};
@@ -11,18 +12,21 @@ use crate::ordering::compare;
 use crate::val::Val;
 use sqlite_items::Items;
 
-/// Where the key stands in a set, or else where it would stand.
+/// Where the key stands in a set, or else where it would stand. Any list may be asked; where it
+/// doesn't ascend the answer says nothing.
 pub fn place_in_set(items: &[Val], key: &Val) -> Result<usize, usize>
-    requires { IsTrue (ascends items.now) }
-    ensures { StandsAt (λ item. item) order items.now key.now result }
+    ensures within { IsSearchInRange result (length items.now) }
+    ensures place { IsTrue (ascends items.now) →
+        StandsAt (λ item. item) order items.now key.now result }
 {
     items.binary_search_by(|item| compare(item, key))
 }
 
-/// Where the key stands in a map, or else where it would stand.
+/// Where the key stands in a map, or else where it would stand, as in a set.
 pub fn place_in_map(entries: &[(Val, Val)], key: &Val) -> Result<usize, usize>
-    requires { IsTrue (ascends (keys_of entries.now)) }
-    ensures { StandsAt (λ entry. entry.0) order entries.now key.now result }
+    ensures within { IsSearchInRange result (length entries.now) }
+    ensures place { IsTrue (ascends (keys_of entries.now)) →
+        StandsAt (λ entry. entry.0) order entries.now key.now result }
 {
     entries.binary_search_by(|entry| compare(&entry.0, key))
 }

@@ -1,6 +1,6 @@
 //! Values, and the operations that a contract emits.
 
-ghost use Rattle.std.specs.Prelude.{◌≡◌, ◌≢◌, IfErr, IfOk, List, OnErr};
+ghost use Rattle.std.specs.Prelude.{◌≡◌, ◌≢◌, IfErr, IfOk, List, Ok, OnErr};
 ghost use Rattle.value_core.specs.Combs.{comb};
 ghost use Rattle.value_core.specs.declared.val.Val.{Val};
 
@@ -127,6 +127,43 @@ impl Val {
     {
         match self {
             Val::Map(entries) => Ok(entries),
+            other => Err(other),
+        }
+    }
+
+    /// The items of a list; any other value is given back.
+    pub fn into_list(self) -> Result<Items<Val>, Val>
+        ensures list { IfOk result (λ items. self ≡ Val.List items) }
+        ensures other { IfErr result (λ v. v ≡ self) }
+        ensures unlisted { OnErr result ((items : List Val) → self ≢ Val.List items) }
+    {
+        match self {
+            Val::List(items) => Ok(items),
+            other => Err(other),
+        }
+    }
+
+    /// The items of a set; any other value is given back.
+    pub fn into_set(self) -> Result<Items<Val>, Val>
+        ensures set { IfOk result (λ items. self ≡ Val.Set items) }
+        ensures other { IfErr result (λ v. v ≡ self) }
+        ensures no_set { OnErr result ((items : List Val) → self ≢ Val.Set items) }
+    {
+        match self {
+            Val::Set(items) => Ok(items),
+            other => Err(other),
+        }
+    }
+
+    /// What an option or a side of an `or` has; any other value is given back.
+    pub fn into_part(self) -> Result<Val, Val>
+        ensures some { (part : Val) → self ≡ Val.Some part → result ≡ Ok part }
+        ensures left { (part : Val) → self ≡ Val.Left part → result ≡ Ok part }
+        ensures right { (part : Val) → self ≡ Val.Right part → result ≡ Ok part }
+        ensures other { IfErr result (λ v. v ≡ self) }
+    {
+        match self {
+            Val::Some(part) | Val::Left(part) | Val::Right(part) => Ok(part.into_inner()),
             other => Err(other),
         }
     }

@@ -1,8 +1,6 @@
 -- A key that is there gets the value at its place, and another goes into its gap.
-use Rattle.std.proofs.Common.{List, Result, Ok, Err, OnOk, subst, ◌∙◌}
-use Rattle.value_core.specs.declared.val.Val.{Val}
-use Rattle.value_core.specs.Order.{order}
-use Rattle.value_core.specs.Places.{StandsAt}
+use Rattle.std.proofs.Common.{Result, Ok, Err, OnOk, ◌∙◌}
+use Rattle.value_core.proofs.SortedPlaces.{map_found}
 use Rattle.value_core.proofs.InsertionLemmas.{map_changed, map_inserted}
 use Rattle.value_core.proofs.inserting.map_put.Goals as goal
 
@@ -13,9 +11,9 @@ on_ok (Err e) f p = p
 pub returns-in-Ok-clause-written : goal.returns-in-Ok-clause-written
 returns-in-Ok-clause-written c =
     c.set.ensures ∙ map_changed c.args.entries.now c.args.key c.args.value c.in-Ok.at c.requires
-    (subst (λ (l : List (Val × Val)). StandsAt (λ e. e.0) order l c.args.key (Ok c.in-Ok.at)) c.as_slice.ensures c.in-Ok.ensures)
+    (map_found c.as_slice.result.now c.args.entries.now c.args.key (Ok c.in-Ok.at) c.as_slice.ensures c.requires c.in-Ok.ensures.place)
 
 pub returns-in-Err-clause-written : goal.returns-in-Err-clause-written
 returns-in-Err-clause-written c =
     on_ok c.insert_at.result (λ is. is ∙ map_inserted c.args.entries.now c.args.key c.args.value c.in-Err.at
-    (subst (λ (l : List (Val × Val)). StandsAt (λ e. e.0) order l c.args.key (Err c.in-Err.at)) c.as_slice.ensures c.in-Err.ensures)) c.insert_at.ensures.inserted
+    (map_found c.as_slice.result.now c.args.entries.now c.args.key (Err c.in-Err.at) c.as_slice.ensures c.requires c.in-Err.ensures.place)) c.insert_at.ensures.inserted

@@ -5,6 +5,6 @@ use Rattle.value_core.specs.Order.{order}
 use Rattle.value_core.proofs.SortedPlaces.{set_stands}
 use Rattle.value_core.proofs.sorted.place_in_set.Goals as goal
 
-pub returns : goal.returns
-returns c = set_stands c.args.items.now c.args.key.now c.binary_search_by.result c.requires c.binary_search_by.ensures.bound
+pub returns-clause-place : goal.returns-clause-place
+returns-clause-place c up = set_stands c.args.items.now c.args.key.now c.binary_search_by.result up c.binary_search_by.ensures.bound
     (c.binary_search_by.ensures.position (λ v. order v c.args.key.now) (always_returns_same _ _ _ (λ a r f' k. search rules)))
