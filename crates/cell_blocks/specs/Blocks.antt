@@ -7,7 +7,7 @@ use Rattle.cell_names.specs.declared.cell.Cell.{Cell}
 use Rattle.cell_names.specs.declared.cell.Cell.TheVariants.{Balance, Storage, Entry}
 use Rattle.cell_names.specs.Cells.{cell_cmp, kind_of}
 use Rattle.cell_names.specs.Contents.{Contents, amount_of}
-use Rattle.cell_blocks.specs.declared.blocks.Holding.{Holding}
+use Rattle.cell_blocks.specs.declared.holding.Holding.{Holding}
 
 -- a cell with its value
 abbrev pub Held : Type 0
@@ -28,7 +28,7 @@ contents_of balances others = from_sorted (all_of balances others)
 -- what both blocks keep: cells ascend, and those of the second are no balances
 pub record AreBlocks (balances : List Holding) (others : List Held) : Type 0 where
   pub ascend : IsTrue (is_sorted cell_cmp (all_of balances others))
-  pub others : All (λ e. 0 < kind_of e.0) others
+  pub behind : All (λ e. 0 < kind_of e.0) others
 
 -- what may stand in a cell of blocks: in a balance an amount, elsewhere any value
 abbrev pub IsHoldable : Cell → Val → Type 0

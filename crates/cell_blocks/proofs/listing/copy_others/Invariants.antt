@@ -1,0 +1,6 @@
+-- The cells so far are copied.
+use Rattle.std.proofs.Common.{◌≡◌, take}
+use Rattle.cell_blocks.proofs.listing.copy_others.Given as goal
+
+abbrev pub invariant-loop-other : goal.invariant-loop-other
+invariant-loop-other l = l.copied.items ≡ take l.other-index l.others
