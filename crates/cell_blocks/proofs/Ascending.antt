@@ -1,11 +1,11 @@
 -- Entries whose keys ascend: their parts, what a map of them has at a place, and what it has after a change at a place.
-use Rattle.std.proofs.Common.{◌≡◌, ℕ, zero, suc, ◌<◌, ◌≤◌, Bool, true, false, not, cond, List, [], ◌∷◌, ◌++◌, length, get_or, set, Some, None, Ordering, refl, sym, ap, subst, ◌∙◌, arith}
+use Rattle.std.proofs.Common.{◌≡◌, ℕ, zero, suc, ◌<◌, Bool, true, false, not, cond, List, [], ◌∷◌, ◌++◌, length, get_or, set, Some, None, Ordering, refl, sym, ap, subst, ◌∙◌, arith}
 use Rattle.std.specs.Prelude.{IsTrue, is_some, slice_get, remove}
-use Rattle.std.specs.declared.cmp.Ordering.TheVariants.{Less, Equal}
+use Rattle.std.specs.declared.cmp.Ordering.TheVariants.{Less}
 use Rattle.std.specs.Ordering.{is_eq, eq_by_cmp}
 use Rattle.std.specs.Option.{option_map}
 use Rattle.std.specs.Cmp.{IsTotalOrder, alike_right, eq_by_cmp_equiv}
-use Rattle.std.specs.FinMap.{FinMap, IsAntisymmetric, find, put, is_sorted, get, contains_key, insert, from_sorted, get-from_sorted, get-remove, entries-from_sorted, entries-insert, same_entries_map, same_map}
+use Rattle.std.specs.FinMap.{IsAntisymmetric, find, put, is_sorted, get, contains_key, insert, from_sorted, get-from_sorted, get-remove, entries-from_sorted, entries-insert, same_entries_map, same_map}
 use Rattle.std.specs.FinMap as finmap
 use Rattle.std.specs.FinMap.Entries.{below_all, is_sorted-put, where_key, is_sorted-where_key, find-where_key}
 use Rattle.std.proofs.lemmas.List.Edits.{insert_end}

@@ -1,5 +1,5 @@
 -- Cells as blocks hold them: what all balances are, then what all other cells have.
-use Rattle.std.specs.Prelude.{◌≡◌, ◌<◌, List, [], ◌++◌, map, All, IsTrue}
+use Rattle.std.specs.Prelude.{◌≡◌, ◌<◌, List, ◌++◌, map, All, IsTrue}
 use Rattle.std.specs.FinMap.{from_sorted, is_sorted}
 use Rattle.value_core.specs.declared.val.Val.{Val}
 use Rattle.value_core.specs.declared.val.Val.TheVariants.{Mutez}

@@ -1,18 +1,18 @@
 //! Cells in two sorted blocks: balances, and all other cells behind them.
 
-ghost use Rattle.std.specs.Prelude.{◌≡◌, ◌↔◌, ◌≤◌, length, true, IsTrue, IfOk, OnOk, OnErr, MatchOption};
+ghost use Rattle.std.specs.Prelude.{◌≡◌, ◌<◌, ◌↔◌, true, IsTrue, IfOk, OnOk, OnErr, MatchOption};
 ghost use Rattle.std.specs.declared.cmp.Ordering.TheVariants.{Less};
 ghost use Rattle.std.specs.Option.{option_copied};
 ghost use Rattle.std.specs.FinMap.{contains_key, empty, entries, get, insert, len};
-ghost use Rattle.cell_names.specs.declared.cell.Cell.{Cell as Cells};
-ghost use Rattle.cell_names.specs.Cells.{cell_cmp};
+ghost use Rattle.cell_names.specs.declared.cell.Cell.{Cell};
+ghost use Rattle.cell_names.specs.Cells.{cell_cmp, kind_of};
 ghost use Rattle.cell_names.specs.Contents.{amount_of, with_balance};
-ghost use Rattle.cell_blocks.specs.Blocks.{IsHoldable};
+ghost use Rattle.cell_blocks.specs.Blocks.{IsHoldable, held_by};
 ghost use Rattle.cell_blocks.specs.Successors.{IsNext, NoneAbove};
 
 use crate::holding::Holding;
 use crate::listing::{copy_others, same_balances, same_others};
-use crate::placing::{last_row, place, place_above, place_of_balance, row_at, value_at};
+use crate::placing::{account, last_row, place, place_above, place_of_balance, row_at, value_at};
 use crate::row::{HeldVal, Row};
 use crate::walk::Walk;
 use cell_names::{Cell, NoMemory, order};
@@ -93,7 +93,7 @@ impl Blocks {
 
     /// Whether the cell stands above all that are there.
     pub fn is_above_all(&self, c: &Cell) -> bool
-        ensures { IsTrue result ↔ ((other : Cells) → contains_key self.now other ≡ true
+        ensures { IsTrue result ↔ ((other : Cell) → contains_key self.now other ≡ true
             → cell_cmp other c.now ≡ Less) }
     {
         match last_row(&self.balances, &self.others) {
@@ -104,25 +104,49 @@ impl Blocks {
 
     /// Adds a cell above all that are there. It takes memory seldom.
     pub fn push(&mut self, c: Cell, v: Val) -> Result<(), NoMemory>
-        requires above { (other : Cells) → contains_key self.old other ≡ true
+        requires above { (other : Cell) → contains_key self.old other ≡ true
             → cell_cmp other c ≡ Less }
         requires holdable { IsHoldable c v }
         ensures pushed { OnOk result (self.new ≡ insert self.old c v) }
         ensures unchanged { OnErr result (self.new ≡ self.old) }
     {
-        match c {
-            Cell::Balance(address) => {
+        match account(&c) {
+            Some(address) => {
+                let address = *address;
                 let amount = amount_of(&v);
-                self.balances.push(Holding { address, amount })?;
+                self.push_balance(Holding { address, amount })
             }
-            other => self.others.push((other, v))?,
+            None => self.push_other(c, v),
         }
+    }
+
+    /// Adds a balance behind all cells, which are balances too.
+    fn push_balance(&mut self, holding: Holding) -> Result<(), NoMemory>
+        requires { (other : Cell) → contains_key self.old other ≡ true
+            → cell_cmp other (held_by holding).0 ≡ Less }
+        ensures pushed { OnOk result (self.new
+            ≡ insert self.old (held_by holding).0 (held_by holding).1) }
+        ensures unchanged { OnErr result (self.new ≡ self.old) }
+    {
+        self.balances.push(holding)?;
+        Ok(())
+    }
+
+    /// Adds another cell behind all cells.
+    fn push_other(&mut self, c: Cell, v: Val) -> Result<(), NoMemory>
+        requires above { (other : Cell) → contains_key self.old other ≡ true
+            → cell_cmp other c ≡ Less }
+        requires other { 0 < kind_of c }
+        ensures pushed { OnOk result (self.new ≡ insert self.old c v) }
+        ensures unchanged { OnErr result (self.new ≡ self.old) }
+    {
+        self.others.push((c, v))?;
         Ok(())
     }
 
     /// Gives a balance that is there another amount; 0 takes it away. It takes no memory.
     pub fn set_balance(&mut self, address: &Address, amount: u64)
-        requires { contains_key self.old (Cells.Balance address.now) ≡ true }
+        requires { contains_key self.old (Cell.Balance address.now) ≡ true }
         ensures { self.new ≡ with_balance self.old address.now amount }
     {
         if let Ok(i) = place_of_balance(&self.balances, address) {

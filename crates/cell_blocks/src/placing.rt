@@ -2,11 +2,11 @@
 //!
 //! Places are counted over both blocks: those of the other cells go on behind the balances.
 
-ghost use Rattle.std.specs.Prelude.{◌≡◌, ◌-◌, length, IsTrue, map, slice_get};
+ghost use Rattle.std.specs.Prelude.{◌≡◌, ◌-◌, ◌<◌, length, IsTrue, MatchOption, map, slice_get};
 ghost use Rattle.std.specs.Option.{option_copied, option_map};
 ghost use Rattle.std.specs.FinMap.{is_sorted};
 ghost use Rattle.value_core.specs.Places.{StandsAt};
-ghost use Rattle.cell_names.specs.Cells.{cell_cmp};
+ghost use Rattle.cell_names.specs.Cells.{cell_cmp, kind_of};
 ghost use Rattle.cell_blocks.specs.Blocks.{all_of, held_by, AreBlocks};
 ghost use Rattle.cell_blocks.specs.Placing.{IsCut};
 
@@ -32,17 +32,28 @@ fn place_of_other(others: &[(Cell, Val)], c: &Cell) -> Result<usize, usize>
     others.binary_search_by(|e| order(&e.0, c))
 }
 
+/// The account whose balance the cell is, if it is one.
+pub(crate) fn account(c: &Cell) -> Option<&Address>
+    ensures { MatchOption result (0 < kind_of c.now) (λ address. c.now ≡ Cell.Balance address.now) }
+{
+    match c {
+        Cell::Balance(address) => Some(address),
+        Cell::Storage(_) => None,
+        Cell::Entry(_, _, _) => None,
+    }
+}
+
 /// Where the cell stands, or else where it would stand.
 pub(crate) fn place(balances: &[Holding], others: &[(Cell, Val)], c: &Cell) -> Result<usize, usize>
     requires { AreBlocks balances.now others.now }
     ensures { StandsAt (λ e. e.0) cell_cmp (all_of balances.now others.now) c.now result }
 {
-    if let Cell::Balance(address) = c {
-        return place_of_balance(balances, address);
-    }
-    match place_of_other(others, c) {
-        Ok(i) => Ok(balances.len() + i),
-        Err(i) => Err(balances.len() + i),
+    match account(c) {
+        Some(address) => place_of_balance(balances, address),
+        None => match place_of_other(others, c) {
+            Ok(i) => Ok(balances.len() + i),
+            Err(i) => Err(balances.len() + i),
+        },
     }
 }
 
