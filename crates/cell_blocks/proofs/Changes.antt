@@ -24,7 +24,7 @@ use Rattle.cell_names.specs.CellOrder.{cell_cmp-total, cell_cmp-ties}
 use Rattle.cell_names.specs.Contents.{Contents, amount_of, with_balance}
 use Rattle.cell_names.proofs.Undoing.{amount_of-Mutez}
 use Rattle.cell_blocks.specs.declared.holding.Holding.{Holding}
-use Rattle.cell_blocks.specs.Blocks.{Held, held_by, all_of, contents_of, AreBlocks, IsHoldable}
+use Rattle.cell_blocks.specs.Blocks.{Held, held_by, all_of, contents_of, AllBelow, AreBlocks, IsHoldable}
 use Rattle.cell_blocks.specs.Successors.{IsNext, NoneAbove}
 use Rattle.cell_blocks.specs.Placing.{IsCut}
 use Rattle.cell_blocks.proofs.CellOrders.{other_above}
@@ -77,10 +77,6 @@ next_is bs os given i r m read are is cut =
     subst (λ (n : Contents). MatchOption r (NoneAbove cell_cmp n given) (λ row. IsNext cell_cmp n given row.0 row.1)) is
     (subst (λ (o : Option Held). MatchOption o (NoneAbove cell_cmp (contents_of bs os) given) (λ row. IsNext cell_cmp (contents_of bs os) given row.0 row.1)) (sym read)
     (next_of cell_cmp-total cell_cmp-ties (all_of bs os) given i are.ascend cut))
-
--- each cell that is there is below this one
-abbrev pub AllBelow : Contents → Cell → Type 0
-AllBelow m q = (other : Cell) → contains_key m other ≡ true → cell_cmp other q ≡ Less
 
 pub last_is : (bs : List Holding) (os : List Held) (q : Cell) (r : Option Held) (m : Contents) → r ≡ slice_get (all_of bs os) (length (all_of bs os) - 1) → AreBlocks bs os → contents_of bs os ≡ m →
     MatchOption r (AllBelow m q) (λ row. (cell_cmp row.0 q ≡ Less) ↔ AllBelow m q)

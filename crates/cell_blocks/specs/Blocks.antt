@@ -1,6 +1,7 @@
 -- Cells as blocks hold them: what all balances are, then what all other cells have.
-use Rattle.std.specs.Prelude.{◌≡◌, ◌<◌, List, ◌++◌, map, All, IsTrue}
-use Rattle.std.specs.FinMap.{from_sorted, is_sorted}
+use Rattle.std.specs.Prelude.{◌≡◌, ◌<◌, true, List, ◌++◌, map, All, IsTrue}
+use Rattle.std.specs.FinMap.{from_sorted, is_sorted, contains_key}
+use Rattle.std.specs.declared.cmp.Ordering.TheVariants.{Less}
 use Rattle.value_core.specs.declared.val.Val.{Val}
 use Rattle.value_core.specs.declared.val.Val.TheVariants.{Mutez}
 use Rattle.cell_names.specs.declared.cell.Cell.{Cell}
@@ -35,3 +36,7 @@ abbrev pub IsHoldable : Cell → Val → Type 0
 IsHoldable (Balance address) v = v ≡ Mutez (amount_of v)
 IsHoldable (Storage address) v = Unit {0}
 IsHoldable (Entry address place key) v = Unit {0}
+
+-- each cell that is there stands below this one
+abbrev pub AllBelow : Contents → Cell → Type 0
+AllBelow m c = (other : Cell) → contains_key m other ≡ true → cell_cmp other c ≡ Less

@@ -1,13 +1,11 @@
 //! Cells in two sorted blocks: balances, and all other cells behind them.
 
 ghost use Rattle.std.specs.Prelude.{◌≡◌, ◌<◌, ◌↔◌, true, IsTrue, IfOk, OnOk, OnErr, MatchOption};
-ghost use Rattle.std.specs.declared.cmp.Ordering.TheVariants.{Less};
 ghost use Rattle.std.specs.Option.{option_copied};
 ghost use Rattle.std.specs.FinMap.{contains_key, empty, entries, get, insert, len};
-ghost use Rattle.cell_names.specs.declared.cell.Cell.{Cell};
 ghost use Rattle.cell_names.specs.Cells.{cell_cmp, kind_of};
 ghost use Rattle.cell_names.specs.Contents.{amount_of, with_balance};
-ghost use Rattle.cell_blocks.specs.Blocks.{IsHoldable, held_by};
+ghost use Rattle.cell_blocks.specs.Blocks.{AllBelow, IsHoldable, held_by};
 ghost use Rattle.cell_blocks.specs.Successors.{IsNext, NoneAbove};
 
 use crate::holding::Holding;
@@ -93,8 +91,7 @@ impl Blocks {
 
     /// Whether the cell stands above all that are there.
     pub fn is_above_all(&self, c: &Cell) -> bool
-        ensures { IsTrue result ↔ ((other : Cell) → contains_key self.now other ≡ true
-            → cell_cmp other c.now ≡ Less) }
+        ensures { IsTrue result ↔ AllBelow self.now c.now }
     {
         match last_row(&self.balances, &self.others) {
             Some(row) => order(row.cell(), c).is_lt(),
@@ -104,8 +101,7 @@ impl Blocks {
 
     /// Adds a cell above all that are there. It takes memory seldom.
     pub fn push(&mut self, c: Cell, v: Val) -> Result<(), NoMemory>
-        requires above { (other : Cell) → contains_key self.old other ≡ true
-            → cell_cmp other c ≡ Less }
+        requires above { AllBelow self.old c }
         requires holdable { IsHoldable c v }
         ensures pushed { OnOk result (self.new ≡ insert self.old c v) }
         ensures unchanged { OnErr result (self.new ≡ self.old) }
@@ -122,8 +118,7 @@ impl Blocks {
 
     /// Adds a balance behind all cells, which are balances too.
     fn push_balance(&mut self, holding: Holding) -> Result<(), NoMemory>
-        requires { (other : Cell) → contains_key self.old other ≡ true
-            → cell_cmp other (held_by holding).0 ≡ Less }
+        requires { AllBelow self.old (held_by holding).0 }
         ensures pushed { OnOk result (self.new
             ≡ insert self.old (held_by holding).0 (held_by holding).1) }
         ensures unchanged { OnErr result (self.new ≡ self.old) }
@@ -134,8 +129,7 @@ impl Blocks {
 
     /// Adds another cell behind all cells.
     fn push_other(&mut self, c: Cell, v: Val) -> Result<(), NoMemory>
-        requires above { (other : Cell) → contains_key self.old other ≡ true
-            → cell_cmp other c ≡ Less }
+        requires above { AllBelow self.old c }
         requires other { 0 < kind_of c }
         ensures pushed { OnOk result (self.new ≡ insert self.old c v) }
         ensures unchanged { OnErr result (self.new ≡ self.old) }
@@ -144,7 +138,8 @@ impl Blocks {
         Ok(())
     }
 
-    /// Gives a balance that is there another amount; 0 takes it away. It takes no memory.
+    /// Gives a balance that is there another amount; 0 takes it away, and moves all balances above
+    /// it. It takes no memory.
     pub fn set_balance(&mut self, address: &Address, amount: u64)
         requires { contains_key self.old (Cell.Balance address.now) ≡ true }
         ensures { self.new ≡ with_balance self.old address.now amount }

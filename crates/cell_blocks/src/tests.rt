@@ -1,12 +1,13 @@
 //! Blocks of two balances, a storage and two entries.
 
-use crate::{Blocks, Row, Walk};
-use cell_names::{Cell, order};
+use crate::{Blocks, Holding, Row};
+use cell_names::Cell;
 use std::alloc::Global;
-use std::cmp::Ordering;
+use std::mem::size_of;
 use std::test::Fail;
 use value_core::{Address, Val};
 
+// An implicit account's address where the first byte is 0, and a contract's where it is 1.
 fn address(first: u8, last: u8) -> Result<Address, Fail> {
     let mut bytes = [0; 22];
     bytes[0] = first;
@@ -26,14 +27,46 @@ fn entry(last: u8, key: bool) -> Result<Cell, Fail> {
     Ok(Cell::Entry(address(1, last)?, 0, Val::Bool(key)))
 }
 
-// Balances of 10 and 30, the storage of a contract, and entries at False and True.
+fn add_balance(blocks: &mut Blocks, last: u8, amount: u64) -> Result<(), Fail> {
+    let cell = Cell::Balance(address(0, last)?);
+    if blocks.is_above_all(&cell) {
+        blocks.push(cell, Val::Mutez(amount))?;
+    }
+    Ok(())
+}
+
+fn add_storage(blocks: &mut Blocks, last: u8, value: Val) -> Result<(), Fail> {
+    let cell = Cell::Storage(address(1, last)?);
+    if blocks.is_above_all(&cell) {
+        blocks.push(cell, value)?;
+    }
+    Ok(())
+}
+
+fn add_entry(blocks: &mut Blocks, last: u8, key: bool, value: Val) -> Result<(), Fail> {
+    let cell = Cell::Entry(address(1, last)?, 0, Val::Bool(key));
+    if blocks.is_above_all(&cell) {
+        blocks.push(cell, value)?;
+    }
+    Ok(())
+}
+
+fn set(blocks: &mut Blocks, last: u8, amount: u64) -> Result<(), Fail> {
+    let account = address(0, last)?;
+    if blocks.get(&Cell::Balance(account)).is_some() {
+        blocks.set_balance(&account, amount);
+    }
+    Ok(())
+}
+
+// Balances of 10 and 30, the storage of a contract, and its entries at False and True.
 fn five(alloc: Global) -> Result<Blocks, Fail> {
     let mut blocks = Blocks::new(alloc);
-    blocks.push(balance(1)?, Val::Mutez(10))?;
-    blocks.push(balance(3)?, Val::Mutez(30))?;
-    blocks.push(storage(2)?, Val::Unit)?;
-    blocks.push(entry(2, false)?, Val::Mutez(5))?;
-    blocks.push(entry(2, true)?, Val::Bool(true))?;
+    add_balance(&mut blocks, 1, 10)?;
+    add_balance(&mut blocks, 3, 30)?;
+    add_storage(&mut blocks, 2, Val::Unit)?;
+    add_entry(&mut blocks, 2, false, Val::Mutez(5))?;
+    add_entry(&mut blocks, 2, true, Val::Bool(true))?;
     Ok(blocks)
 }
 
@@ -49,6 +82,12 @@ fn stands(row: &Option<Row>, c: &Cell, v: &Val) -> bool {
         Some(row) => row.cell().same(c) && row.value().same(v),
         None => false,
     }
+}
+
+#[test]
+fn a_balance_takes_32_bytes(rt: HostRuntime) {
+    assert_eq!(rt; size_of::<Holding>(), 32);
+    assert_eq!(rt; size_of::<(Cell, Val)>(), 160);
 }
 
 #[test]
@@ -71,13 +110,6 @@ fn each_cell_is_found_and_no_other(rt: HostRuntime) -> Result<(), Fail> {
 fn the_cell_above_is_in_the_same_block_or_the_next(rt: HostRuntime) -> Result<(), Fail> {
     let blocks = five(rt.alloc())?;
     assert!(rt; stands(&blocks.next_above(None), &balance(1)?, &Val::Mutez(10)));
-    assert!(rt;
-        stands(
-            &blocks.next_above(Some(&balance(1)?)),
-            &balance(3)?,
-            &Val::Mutez(30)
-        )
-    );
     assert!(rt;
         stands(
             &blocks.next_above(Some(&balance(2)?)),
@@ -109,25 +141,13 @@ fn the_cell_above_is_in_the_same_block_or_the_next(rt: HostRuntime) -> Result<()
 #[test]
 fn a_balance_of_0_is_away(rt: HostRuntime) -> Result<(), Fail> {
     let mut blocks = five(rt.alloc())?;
-    blocks.set_balance(&address(0, 3)?, 31);
+    set(&mut blocks, 3, 31)?;
     assert!(rt; has(&blocks, &balance(3)?, &Val::Mutez(31)));
-    blocks.set_balance(&address(0, 1)?, 0);
+    set(&mut blocks, 1, 0)?;
     assert!(rt; blocks.get(&balance(1)?).is_none());
     assert!(rt; has(&blocks, &balance(3)?, &Val::Mutez(31)));
     assert_eq!(rt; blocks.len(), 4);
     Ok(())
-}
-
-fn ascends(walk: &mut Walk, least: Row) -> usize {
-    let mut last = least;
-    let mut count = 1;
-    while let Some(row) = walk.next() {
-        if order(last.cell(), row.cell()) == Ordering::Less {
-            count += 1;
-        }
-        last = row;
-    }
-    count
 }
 
 #[test]
@@ -135,9 +155,13 @@ fn a_walk_goes_over_all_cells_in_their_order(rt: HostRuntime) -> Result<(), Fail
     let blocks = five(rt.alloc())?;
     let mut walk = blocks.walk();
     assert!(rt; stands(&walk.peek(), &balance(1)?, &Val::Mutez(10)));
-    let first = walk.next().ok_or("no first cell")?;
-    assert_eq!(rt; ascends(&mut walk, first), 5);
+    assert!(rt; stands(&walk.next(), &balance(1)?, &Val::Mutez(10)));
+    assert!(rt; stands(&walk.next(), &balance(3)?, &Val::Mutez(30)));
+    assert!(rt; stands(&walk.next(), &storage(2)?, &Val::Unit));
+    assert!(rt; stands(&walk.next(), &entry(2, false)?, &Val::Mutez(5)));
+    assert!(rt; stands(&walk.next(), &entry(2, true)?, &Val::Bool(true)));
     assert!(rt; walk.next().is_none());
+    assert!(rt; walk.peek().is_none());
     Ok(())
 }
 
@@ -146,7 +170,7 @@ fn a_copy_is_the_same_until_a_balance_is_another(rt: HostRuntime) -> Result<(), 
     let blocks = five(rt.alloc())?;
     let mut copied = blocks.copy(rt.alloc())?;
     assert!(rt; copied.same(&blocks));
-    copied.set_balance(&address(0, 3)?, 29);
+    set(&mut copied, 3, 29)?;
     assert!(rt; !copied.same(&blocks));
     let held = blocks.get(&storage(2)?).ok_or("no storage")?;
     assert!(rt; held.copy(rt.alloc())?.same(&Val::Unit));
