@@ -18,6 +18,9 @@ use std::alloc::Global;
 use std::marker::Model;
 use value_core::{Address, Val};
 
+/// What an account has whose balance is away.
+const NOTHING: u64 = 0;
+
 /// Cells with their values, each cell once: what balances are, then what other cells have.
 #[derive(Debug, Drop)]
 pub struct Blocks {
@@ -145,7 +148,7 @@ impl Blocks {
         ensures { self.new ≡ with_balance self.old address.now amount }
     {
         if let Ok(i) = place_of_balance(&self.balances, address) {
-            if amount == 0 {
+            if amount == NOTHING {
                 self.balances.remove(i);
             } else {
                 self.balances[i].amount = amount;

@@ -17,21 +17,21 @@ invariant_of-self c =
     let here = subst (λ (l : List Holding). IsPlace (λ (h : Holding). (held_by h).0) l (Balance c.args.address.now) c.in-Ok.i) c.deref.ensures.value c.in-Ok.ensures in
     (take_away c.self.inside.balances.items c.remove.new.self.items c.self.inside.others.items c.args.address.now c.in-Ok.i c.args.self.now c.self.invariant c.self.view_is here c.remove.ensures.items).are
 
-pub returns-then-amount-eq0 : goal.returns-then-amount-eq0
-returns-then-amount-eq0 c =
+pub returns-then-amount-eq-NOTHING : goal.returns-then-amount-eq-NOTHING
+returns-then-amount-eq-NOTHING c =
     let here = subst (λ (l : List Holding). IsPlace (λ (h : Holding). (held_by h).0) l (Balance c.args.address.now) c.in-Ok.i) c.deref.ensures.value c.in-Ok.ensures in
     (take_away c.self.inside.balances.items c.remove.new.self.items c.self.inside.others.items c.args.address.now c.in-Ok.i c.args.self.now c.self.invariant c.self.view_is here c.remove.ensures.items).is
-    ∙ ap (with_balance c.args.self.now c.args.address.now) (sym c.if-amount-eq0.true)
+    ∙ ap (with_balance c.args.self.now c.args.address.now) (sym c.if-amount-eq-NOTHING.true)
 
-pub invariant_of-self-else-amount-eq0 : goal.invariant_of-self-else-amount-eq0
-invariant_of-self-else-amount-eq0 c =
+pub invariant_of-self-else-amount-eq-NOTHING : goal.invariant_of-self-else-amount-eq-NOTHING
+invariant_of-self-else-amount-eq-NOTHING c =
     let here = subst (λ (l : List Holding). IsPlace (λ (h : Holding). (held_by h).0) l (Balance c.args.address.now) c.in-Ok.i) c.deref.ensures.value c.in-Ok.ensures in
-    (set_amount c.self.inside.balances.items _ c.self.inside.others.items c.args.address.now c.in-Ok.i c.args.amount c.index_mut.result.now c.args.self.now c.self.invariant c.self.view_is here c.if-amount-eq0.false c.index_mut.ensures.value refl).are
+    (set_amount c.self.inside.balances.items _ c.self.inside.others.items c.args.address.now c.in-Ok.i c.args.amount c.index_mut.result.now c.args.self.now c.self.invariant c.self.view_is here c.if-amount-eq-NOTHING.false c.index_mut.ensures.value refl).are
 
-pub returns-else-amount-eq0 : goal.returns-else-amount-eq0
-returns-else-amount-eq0 c =
+pub returns-else-amount-eq-NOTHING : goal.returns-else-amount-eq-NOTHING
+returns-else-amount-eq-NOTHING c =
     let here = subst (λ (l : List Holding). IsPlace (λ (h : Holding). (held_by h).0) l (Balance c.args.address.now) c.in-Ok.i) c.deref.ensures.value c.in-Ok.ensures in
-    (set_amount c.self.inside.balances.items _ c.self.inside.others.items c.args.address.now c.in-Ok.i c.args.amount c.index_mut.result.now c.args.self.now c.self.invariant c.self.view_is here c.if-amount-eq0.false c.index_mut.ensures.value refl).is
+    (set_amount c.self.inside.balances.items _ c.self.inside.others.items c.args.address.now c.in-Ok.i c.args.amount c.index_mut.result.now c.args.self.now c.self.invariant c.self.view_is here c.if-amount-eq-NOTHING.false c.index_mut.ensures.value refl).is
 
 pub returns-in_default : goal.returns-in_default
 returns-in_default c =
