@@ -1,0 +1,11 @@
+-- what the public contracts rest on
+pub mod Operations
+pub mod Course
+pub mod Replies
+pub mod SameType
+pub mod Worlds
+pub mod CodeRule
+pub mod WriteRule
+pub mod SerialRule
+pub mod Serial
+pub mod Laws

@@ -1,0 +1,32 @@
+//! What an operation is, and what it does: the measure of every way to run one.
+//!
+//! An operation is a transfer from its source. A transfer moves money and calls a contract, whose
+//! code runs, writes what it keeps, and emits further transfers. They run depth first, in one budget
+//! of gas, turns, room, cells and calls, and a failure anywhere undoes all of them. `specs` says this
+//! on whole maps of cells, as a recursion on transfers: `SerialRule` has one definition for each
+//! step, `Serial` the receipt, the footprint and the cells that are left, and the run of a list.
+//!
+//! - `laws`: what is true of that, whoever runs it.
+//! - `op`: operations, and which of them a block may hold. Begin here.
+//! - `receipt`: how an operation ended. `batch`: operations that wait for a block.
+//! - `transfer`: what operations are made of.
+//! - `limits`: how much one operation may do.
+#![tactic(auto)]
+
+mod batch;
+mod laws;
+mod limits;
+mod op;
+mod receipt;
+mod transfer;
+
+pub use batch::Batch;
+pub use laws::{
+    a_big_map_has_what_its_cells_have, a_changed_cell_is_in_the_footprint,
+    a_failed_operation_changes_nothing, an_operation_is_its_accesses,
+    an_operation_keeps_the_supply, same_types_are_equal, transfers_only_add_accesses,
+};
+pub use limits::{MOST_CALLS, MOST_DEPTH, MOST_GAS, MOST_ROOM, MOST_SIZE, MOST_TURNS};
+pub use op::{Op, lawful};
+pub use receipt::Receipt;
+pub use transfer::Transfer;
