@@ -106,9 +106,6 @@ pub(crate) fn value_at<'a>(
 pub(crate) fn last_row<'a>(balances: &'a [Holding], others: &'a [(Cell, Val)]) -> Option<Row<'a>>
     ensures { let all = all_of balances.now others.now in result ≡ slice_get all (length all - 1) }
 {
-    row_at(
-        balances,
-        others,
-        (balances.len() + others.len()).saturating_sub(1),
-    )
+    let last = (balances.len() + others.len()).saturating_sub(1);
+    row_at(balances, others, last)
 }
