@@ -1,6 +1,6 @@
 //! Cells in two sorted blocks: balances, and all other cells behind them.
 
-ghost use Rattle.std.specs.Prelude.{◌≡◌, ◌<◌, ◌↔◌, true, IsTrue, IfOk, OnOk, OnErr, MatchOption};
+ghost use Rattle.std.specs.Prelude.{◌≡◌, ◌<◌, ◌^◌, ◌↔◌, true, IsTrue, IfOk, OnOk, OnErr, MatchOption};
 ghost use Rattle.std.specs.Option.{option_copied};
 ghost use Rattle.std.specs.FinMap.{contains_key, empty, entries, get, insert, len};
 ghost use Rattle.cell_names.specs.Cells.{cell_cmp, kind_of};
@@ -9,7 +9,7 @@ ghost use Rattle.cell_blocks.specs.Blocks.{AllBelow, IsHoldable, held_by};
 ghost use Rattle.cell_blocks.specs.Successors.{IsNext, NoneAbove};
 
 use crate::holding::Holding;
-use crate::listing::{copy_others, same_balances, same_others};
+use crate::listing::{copy_others, count_balances, count_others, same_balances, same_others};
 use crate::placing::{account, last_row, place, place_above, place_of_balance, row_at, value_at};
 use crate::row::{HeldVal, Row};
 use crate::walk::Walk;
@@ -58,9 +58,10 @@ impl Blocks {
 
     /// How many cells there are.
     pub fn len(&self) -> usize
-        ensures { result ≡ len self.now }
+        ensures length { result ≡ len self.now }
+        ensures small { result < 2 ^ 63 }
     {
-        self.balances.len() + self.others.len()
+        count_balances(self.balances.as_slice()) + count_others(self.others.as_slice())
     }
 
     /// Whether there is no cell.

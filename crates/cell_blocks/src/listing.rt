@@ -1,6 +1,6 @@
-//! One block at a time: whether two are the same, and equal ones.
+//! One block at a time: how many cells it has, whether two are the same, and equal ones.
 
-ghost use Rattle.std.specs.Prelude.{◌≡◌, ◌≤◌, ◌↔◌, length, IsTrue, IfOk};
+ghost use Rattle.std.specs.Prelude.{◌≡◌, ◌<◌, ◌≤◌, ◌^◌, ◌↔◌, length, IsTrue, IfOk};
 
 use crate::holding::Holding;
 use cell_names::{Cell, NoMemory};
@@ -62,4 +62,20 @@ pub(crate) fn copy_others(
         copied.push((other.0.copy(alloc)?, other.1.copy(alloc)?))?;
     }
     Ok(copied)
+}
+
+/// How many balances there are. Each takes some bytes, so they are fewer than addresses in memory.
+pub(crate) fn count_balances(row: &[Holding]) -> usize
+    ensures length { result ≡ length row.now }
+    ensures small { result < 2 ^ 62 }
+{
+    row.len()
+}
+
+/// How many other cells there are, which are few for the same reason.
+pub(crate) fn count_others(row: &[(Cell, Val)]) -> usize
+    ensures length { result ≡ length row.now }
+    ensures small { result < 2 ^ 62 }
+{
+    row.len()
 }
