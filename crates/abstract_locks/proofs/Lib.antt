@@ -1,0 +1,5 @@
+pub mod ModeLemmas
+pub mod RowLemmas
+pub mod RowAnswers
+pub mod TableLemmas
+pub mod ListLemmas

@@ -1,0 +1,8 @@
+-- The row of the cell decides.
+use Rattle.std.proofs.Common.{subst}
+use Rattle.abstract_locks.specs.Holders.{Answers}
+use Rattle.abstract_locks.specs.Tables.{Table, held}
+use Rattle.abstract_locks.proofs.table.LockTable.test.Goals as goal
+
+pub returns : goal.returns
+returns c = subst (λ (table : Table). Answers (held table c.args.c.now) c.args.ticket c.args.m c.answer.result) c.self.view_is c.answer.ensures
