@@ -30,3 +30,6 @@ pub use laws::{
     a_request_has_one_answer, grants_keep_tickets_apart,
 };
 pub use table::LockTable;
+
+#[cfg(test)]
+mod tests;

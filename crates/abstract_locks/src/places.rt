@@ -2,7 +2,7 @@
 
 ghost use Rattle.std.specs.Prelude.{◌≡◌, ◌↔◌, ◌==◌, ◌&&◌, ℕ, [], IsTrue, IsSome, None, Some, OnOk, OnErr, if◌then◌else◌};
 ghost use Rattle.cell_names.specs.declared.cell.Cell.{Cell};
-ghost use Rattle.abstract_locks.specs.Holders.{IsFree, Answers, asked};
+ghost use Rattle.abstract_locks.specs.Holders.{AreApart, IsFree, Answers, asked};
 ghost use Rattle.abstract_locks.specs.Tables.{place_in, row_at, held, HasRoom, is_one};
 ghost use Rattle.abstract_locks.specs.Lists.{is_among};
 
@@ -27,7 +27,8 @@ pub fn has_place(rows: &Rows, c: &Cell, ticket: u32) -> bool
 
 /// How the ticket is answered that asks for the cell in one more mode.
 pub fn answer(rows: &Rows, c: &Cell, ticket: u32, m: Mode) -> Asked
-    ensures { Answers (held rows.now.entries c.now) ticket m result }
+    ensures answer { Answers (held rows.now.entries c.now) ticket m result }
+    ensures apart { AreApart (held rows.now.entries c.now) }
 {
     match rows.get(c) {
         Some(row) => row.answer(ticket, m),

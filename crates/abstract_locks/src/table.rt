@@ -3,7 +3,7 @@
 ghost use Rattle.std.specs.Prelude.{◌≡◌, ◌≢◌, ℕ, None, Ok, IfOk, OnOk};
 ghost use Rattle.cell_names.specs.declared.cell.Cell.{Cell};
 ghost use Rattle.abstract_locks.specs.declared.asked.Asked.TheVariants.{Granted};
-ghost use Rattle.abstract_locks.specs.Holders.{IsFree, Answers};
+ghost use Rattle.abstract_locks.specs.Holders.{AreApart, IsFree, Answers};
 ghost use Rattle.abstract_locks.specs.Tables.{held, HasRoom, locked};
 
 use crate::asked::Asked;
@@ -51,7 +51,8 @@ impl LockTable {
 
     /// How the ticket is answered that asks for the cell in one more mode.
     pub fn test(&self, ticket: u32, c: &Cell, m: Mode) -> Asked
-        ensures { Answers (held self.now c.now) ticket m result }
+        ensures answer { Answers (held self.now c.now) ticket m result }
+        ensures apart { AreApart (held self.now c.now) }
     {
         answer(&self.rows, c, ticket, m)
     }

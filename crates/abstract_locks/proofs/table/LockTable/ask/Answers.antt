@@ -5,4 +5,4 @@ use Rattle.abstract_locks.specs.Holders.{Holders, IsFree}
 use Rattle.abstract_locks.proofs.table.LockTable.ask.Goals as goal
 
 pub grant-requires-clause-free : goal.grant-requires-clause-free
-grant-requires-clause-free c = subst (λ (h : Cell → Holders). IsFree (h c.args.c.now) c.args.ticket c.args.m) (sym c.reserve.ensures.unchanged) c.in-Granted.ensures
+grant-requires-clause-free c = subst (λ (h : Cell → Holders). IsFree (h c.args.c.now) c.args.ticket c.args.m) (sym c.reserve.ensures.unchanged) c.in-Granted.ensures.answer
