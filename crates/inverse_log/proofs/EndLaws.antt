@@ -4,16 +4,14 @@ use Rattle.std.specs.Prelude.{reverse, All}
 use Rattle.std.specs.Bool.{OnTrue, OnFalse}
 use Rattle.std.proofs.lemmas.List.{reverse-append, length-append}
 use Rattle.std.proofs.lemmas.List.Elements.{All-push, All-pop, All-weaker}
-use Rattle.cell_names.specs.declared.cell.Cell.{Cell}
 use Rattle.cell_names.specs.declared.access.Access.{Access}
 use Rattle.cell_names.specs.declared.access.Reply.{Reply}
 use Rattle.cell_names.specs.declared.access.Undo.{Undo}
 use Rattle.cell_names.specs.declared.access.Undo.TheVariants as undo
 use Rattle.cell_names.specs.Contents.{Contents, IsTidy}
-use Rattle.cell_names.specs.Effects.{undone, flight_undone, undo_of, after, flight_after}
-use Rattle.cell_names.specs.Conditions.{Seen, IsCovered, HasAmount, MayChange, CanReturn, CanPut, CanUndo}
+use Rattle.cell_names.specs.Effects.{undone, flight_undone, undo_of, after}
+use Rattle.cell_names.specs.Conditions.{Seen, IsCovered, HasAmount, MayChange, CanUndo}
 use Rattle.cell_names.specs.Stores.{Stays, Did, Undoes}
-use Rattle.cell_names.specs.Laws.{IsTakenBack}
 use Rattle.cell_names.proofs.Undoing.{taken_back}
 use Rattle.inverse_log.specs.Logs.{CanUndoLast, UndoesLast}
 use Rattle.inverse_log.specs.Ends.{Reaches, LeadsTo, LeadsSomewhere, IsAt}

@@ -18,3 +18,6 @@ pub use laws::{
     an_undone_entry_leads_on,
 };
 pub use log::InverseLog;
+
+#[cfg(test)]
+mod tests;
