@@ -2,6 +2,7 @@
 use Rattle.std.proofs.Common.{◌≡◌, ℕ, Bool, true, false, List, Result, Ok, Err, sym, ap, subst, ◌∙◌, set}
 use Rattle.std.specs.Prelude.{IsTrue, if◌then◌else◌, insert, remove}
 use Rattle.value_core.specs.declared.val.Val.{Val}
+use Rattle.value_core.specs.declared.val.Val.TheVariants as value
 use Rattle.value_core.specs.Order.{order}
 use Rattle.value_core.specs.Places.{StandsAt}
 use Rattle.value_core.specs.Sorted.{keys_of, put, with_key, without, without_key}
@@ -43,6 +44,14 @@ pub map_put_there : (r : Result ℕ ℕ) (entries slice new : List (Val × Val))
     new ≡ map_by r entries key v → IsTrue (ascends (keys_of entries)) → new ≡ put order key v entries
 map_put_there r entries slice new key v same stands made rises =
     made ∙ put_at r entries key v rises (subst (λ (l : List (Val × Val)). IsTrue (ascends (keys_of l)) → StandsAt (λ e. e.0) order l key r) same stands rises)
+
+-- the value is what the choice has
+pub map_put_part : (r : Result ℕ ℕ) (entries slice new : List (Val × Val)) (key part choice : Val) (told : Result Val Val) → slice ≡ entries → (IsTrue (ascends (keys_of slice)) → StandsAt (λ e. e.0) order slice key r) →
+    new ≡ map_by r entries key part → told ≡ Ok part → ((v : Val) → choice ≡ value.Some v → told ≡ Ok v) →
+    (v : Val) → choice ≡ value.Some v → IsTrue (ascends (keys_of entries)) → new ≡ put order key v entries
+map_put_part r entries slice new key part choice told same stands made is has v chosen =
+    let alike : part ≡ v = (let other : told ≡ Ok v = has v chosen in cc) in
+    map_put_there r entries slice new key v same stands (made ∙ ap (λ w. map_by r entries key w) alike)
 
 -- a map without the key
 abbrev pub map_less : Result ℕ ℕ → List (Val × Val) → List (Val × Val)

@@ -1,6 +1,6 @@
 -- Pairs to the right: from the last part up, and from the first part down; and their size.
-use Rattle.std.proofs.Common.{◌≡◌, ℕ, suc, ◌+◌, ◌-◌, ◌^◌, ◌<◌, ◌≤◌, List, [], ◌∷◌, ◌++◌, reverse, length, Option, Some, None, Ok, true, refl, sym, ap, subst, ◌∙◌, arith, rules}
-use Rattle.std.specs.Prelude.{IsTrue, is_some, min, sum_by}
+use Rattle.std.proofs.Common.{◌≡◌, ℕ, suc, ◌+◌, ◌<◌, ◌≤◌, List, [], ◌∷◌, ◌++◌, reverse, length, Option, Some, None, Ok, Bool, true, false, refl, sym, ap, subst, ◌∙◌, arith, rules}
+use Rattle.std.specs.Prelude.{IsTrue, is_some, nat_le, sum_by}
 use Rattle.std.specs.Option.{option_map}
 use Rattle.std.proofs.lemmas.List.Sums.{sum_by-cons}
 use Rattle.value_core.specs.declared.val.Val.{Val}
@@ -14,7 +14,7 @@ use Rattle.value_core.proofs.SizeLaws.{size-pair}
 use Rattle.std.proofs.lemmas.List.{reverse-append, reverse-reverse}
 use Rattle.michelson_rules.specs.Plain.{before_parts, comb_of, combed, in_parts, parts_of_comb}
 use Rattle.michelson_rules.specs.Answers.{on_any}
-use Rattle.michelson_data.specs.Applies.{Applies}
+use Rattle.michelson_data.specs.Replaces.{Replaces}
 use Rattle.michelson_data.specs.Pairing.{comb_up, paired_up}
 
 out-pair : (a b : Val) → out-Val (value.Pair a b) ≡ is.Pair a b
@@ -59,24 +59,32 @@ size_of_parts : (x : Val) (xs : List Val) → size_of (paired_up x xs) ≡ sum_b
 size_of_parts x xs = let up = size_up x xs in let sums = sum_by-cons size_of x xs in omega arith
 
 -- pairs of parts that are small enough together, and of others
-pub small_comb : (parts : List Val) (total : ℕ) (v : Val) → 1 ≤ length parts → total ≡ min (sum_by size_of parts) (2 ^ 64 - 1) → total ≤ 4096 → v ≡ comb_up parts → combed (reverse parts) ≡ gives v
-small_comb [] total v some sum small made = absurd (omega arith)
-small_comb (x ∷ xs) total v some sum small made = let size = size_of_parts x xs in
+pub small_comb : (parts : List Val) (v : Val) → 1 ≤ length parts → sum_by size_of parts ≤ 4096 → v ≡ comb_up parts → combed (reverse parts) ≡ gives v
+small_comb [] v some small made = absurd (omega arith)
+small_comb (x ∷ xs) v some small made = let size = size_of_parts x xs in
     combed_up x xs ∙ small_enough (paired_up x xs) (omega arith) ∙ ap gives (sym made)
 
-pub large_comb : (parts : List Val) (total : ℕ) → 1 ≤ length parts → total ≡ min (sum_by size_of parts) (2 ^ 64 - 1) → 4096 < total → combed (reverse parts) ≡ Ends why.TooLarge
-large_comb [] total some sum large = absurd (omega arith)
-large_comb (x ∷ xs) total some sum large = let size = size_of_parts x xs in combed_up x xs ∙ too_large (paired_up x xs) (omega arith)
+above : (n m : ℕ) → (n ≤ m → false ≡ true) → m < n
+above n m more = by_test (nat_le n m) refl
+  where
+    by_test : (b : Bool) → nat_le n m ≡ b → m < n
+    by_test true is = absurd (let never : false ≡ true = more (grind arith) in search rules)
+    by_test false is = grind arith
+
+pub large_comb : (parts : List Val) → 1 ≤ length parts → (sum_by size_of parts ≤ 4096 → false ≡ true) → combed (reverse parts) ≡ Ends why.TooLarge
+large_comb [] some large = absurd (omega arith)
+large_comb (x ∷ xs) some large = let size = size_of_parts x xs in let more = above (sum_by size_of (x ∷ xs)) 4096 large in
+    combed_up x xs ∙ too_large (paired_up x xs) (omega arith)
 
 -- parts that are spread on the stack in the place of the pair
 pub apart_is : (n : ℕ) (v : Val) (rest old new : List Val) → old ≡ rest ++ v ∷ [] → IsTrue (is_some (parts_of_comb n v)) →
     ((parts : List Val) → parts_of_comb n v ≡ Some parts → new ≡ rest ++ reverse parts) →
-    Applies {T = Unit {0}} (on_any (λ w. in_parts (parts_of_comb n w)) (reverse old)) (Ok tt) (reverse new)
+    Replaces {T = Unit {0}} (on_any (λ w. in_parts (parts_of_comb n w)) (reverse old)) (Ok tt) (reverse new)
 apart_is n v rest old new split there spread =
-    subst (λ s. Applies {T = Unit {0}} (on_any (λ w. in_parts (parts_of_comb n w)) s) (Ok tt) (reverse new)) (sym (ap reverse split ∙ reverse-append rest (v ∷ [])))
+    subst (λ s. Replaces {T = Unit {0}} (on_any (λ w. in_parts (parts_of_comb n w)) s) (Ok tt) (reverse new)) (sym (ap reverse split ∙ reverse-append rest (v ∷ [])))
     (by_parts (parts_of_comb n v) refl there)
   where
-    by_parts : (o : Option (List Val)) → parts_of_comb n v ≡ o → is_some o ≡ true → Applies {T = Unit {0}} (in_parts o, reverse rest) (Ok tt) (reverse new)
+    by_parts : (o : Option (List Val)) → parts_of_comb n v ≡ o → is_some o ≡ true → Replaces {T = Unit {0}} (in_parts o, reverse rest) (Ok tt) (reverse new)
     by_parts (Some ps) is_it some = ap reverse (spread ps is_it) ∙ reverse-append rest (reverse ps) ∙ ap (λ l. l ++ reverse rest) (reverse-reverse ps)
     by_parts None is_it some = absurd (search rules)
 

@@ -5,13 +5,13 @@ use Rattle.std.proofs.lemmas.Grind.{common_steps}
 use Rattle.std.specs.Prelude.{nat_le, if◌then◌else◌}
 use lib.Seq.{take-append_seam, drop-append_seam}
 use Rattle.value_core.specs.declared.val.Val.{Val}
-use Rattle.michelson_rules.specs.Answers.{Answer, Answered, Ends, Gives, Misses, gives, missed}
+use Rattle.michelson_rules.specs.Answers.{Answer, Answered, Ends, Gives, Misses, gives, missed, sized}
 use Rattle.michelson_rules.specs.Plain.{combed, paired}
-use Rattle.michelson_code.specs.declared.why.Why.TheVariants as why
 use Rattle.michelson_data.specs.declared.fault.DataEnd.{DataEnd}
 use Rattle.michelson_data.specs.declared.fault.DataEnd.TheVariants as end
-use Rattle.michelson_data.specs.Applies.{Applies}
+use Rattle.michelson_data.specs.Replaces.{Replaces}
 use Rattle.michelson_data.specs.Settled.{left_by, told}
+use Rattle.michelson_data.specs.Sized.{IsSizedOf}
 use Rattle.michelson_data.specs.Tells.{Tells}
 
 -- from the top down: the operands, then the others
@@ -39,43 +39,42 @@ value_on_top : (below : List Val) (v : Val) → reverse (below ++ v ∷ []) ≡ 
 value_on_top below v = reverse-append below (v ∷ [])
 
 -- where there is no line nothing is to be shown
-pub with_line : (a : Answer) (below : List Val) (r : Result (Unit {0}) DataEnd) (new : List Val) → ((a ≡ Misses → ⊥) → Applies (a, below) r new) → Applies (a, below) r new
+pub with_line : (a : Answer) (below : List Val) (r : Result (Unit {0}) DataEnd) (new : List Val) → ((a ≡ Misses → ⊥) → Replaces (a, below) r new) → Replaces (a, below) r new
 with_line (Gives vs) below r new shown = shown (λ e. absurd (search rules))
 with_line (Ends y) below r new shown = shown (λ e. absurd (search rules))
 with_line Misses below r new shown = tt
 
--- one value in the place of operands
-pub value_made : (a : Answer) (v : Val) (below : List Val) → ((a ≡ Misses → ⊥) → a ≡ gives v) → Applies {T = Unit {0}} (a, reverse below) (Ok tt) (reverse (below ++ v ∷ []))
-value_made a v below tells = with_line a (reverse below) (Ok tt) (reverse (below ++ v ∷ []))
-    (λ line. subst (λ b. Applies {T = Unit {0}} (b, reverse below) (Ok tt) (reverse (below ++ v ∷ []))) (sym (tells line)) (value_on_top below v))
+-- what is made of operands is tested for its size and put in their place
+pub sized_put : (a : Answer) (made : Val) (below : List Val) (r : Result (Unit {0}) DataEnd) (new : List Val) → IsSizedOf made a → Replaces (sized made, below) r new → Replaces (a, below) r new
+sized_put a made below r new tells put = with_line a below r new (λ line. subst (λ b. Replaces (b, below) r new) (sym (tells line)) put)
 
--- none, since it would be too large
-pub value_large : (a : Answer) (below : List Val) → ((a ≡ Misses → ⊥) → a ≡ Ends why.TooLarge) → Applies {T = Unit {0}} (a, reverse below) (Err end.TooLarge) (reverse below)
-value_large a below tells = with_line a (reverse below) (Err end.TooLarge) (reverse below)
-    (λ line. subst (λ b. Applies {T = Unit {0}} (b, reverse below) (Err end.TooLarge) (reverse below)) (sym (tells line)) (refl, refl))
+-- one value in the place of operands
+pub value_made : (a : Answer) (v : Val) (below : List Val) → ((a ≡ Misses → ⊥) → a ≡ gives v) → Replaces {T = Unit {0}} (a, reverse below) (Ok tt) (reverse (below ++ v ∷ []))
+value_made a v below tells = with_line a (reverse below) (Ok tt) (reverse (below ++ v ∷ []))
+    (λ line. subst (λ b. Replaces {T = Unit {0}} (b, reverse below) (Ok tt) (reverse (below ++ v ∷ []))) (sym (tells line)) (value_on_top below v))
 
 -- want of memory comes freely
-pub no_memory : (a : Answered) (new : List Val) → Applies {T = Unit {0}} a (Err end.NoMemory) new
+pub no_memory : (a : Answered) (new : List Val) → Replaces {T = Unit {0}} a (Err end.NoMemory) new
 no_memory (Gives vs, below) new = refl
 no_memory (Ends y, below) new = tt
 no_memory (Misses, below) new = tt
 
-ended : (a : Answer) (e : DataEnd) (below old : List Val) → Tells (Err e) a → Applies (a, reverse below) (told (Err e)) (reverse (left_by (Err e) below old))
-ended a end.Overflow below old tells = subst (λ b. Applies {T = Unit {0}} (b, reverse below) (Err end.Overflow) (reverse below)) (sym tells) (refl, refl)
-ended a end.Shift below old tells = subst (λ b. Applies {T = Unit {0}} (b, reverse below) (Err end.Shift) (reverse below)) (sym tells) (refl, refl)
-ended a end.TooLarge below old tells = subst (λ b. Applies {T = Unit {0}} (b, reverse below) (Err end.TooLarge) (reverse below)) (sym tells) (refl, refl)
+ended : (a : Answer) (e : DataEnd) (below old : List Val) → Tells (Err e) a → Replaces (a, reverse below) (told (Err e)) (reverse (left_by (Err e) below old))
+ended a end.Overflow below old tells = subst (λ b. Replaces {T = Unit {0}} (b, reverse below) (Err end.Overflow) (reverse below)) (sym tells) (refl, refl)
+ended a end.Shift below old tells = subst (λ b. Replaces {T = Unit {0}} (b, reverse below) (Err end.Shift) (reverse below)) (sym tells) (refl, refl)
+ended a end.TooLarge below old tells = subst (λ b. Replaces {T = Unit {0}} (b, reverse below) (Err end.TooLarge) (reverse below)) (sym tells) (refl, refl)
 ended a end.NoMemory below old tells = no_memory (a, reverse below) (reverse old)
 
-settled : (a : Answer) (made : Result Val DataEnd) (below old : List Val) → Tells made a → Applies (a, reverse below) (told made) (reverse (left_by made below old))
+settled : (a : Answer) (made : Result Val DataEnd) (below old : List Val) → Tells made a → Replaces (a, reverse below) (told made) (reverse (left_by made below old))
 settled a (Ok v) below old tells = value_made a v below (λ line. tells)
 settled a (Err e) below old tells = ended a e below old tells
 
 -- pairs are put together
 pub put_together : (n : ℕ) (xs new : List Val) (made : Result Val DataEnd) (result : Result (Unit {0}) DataEnd) → n ≤ length xs → Tells made (combed (reverse (drop (length xs - n) xs))) →
-    result ≡ told made → new ≡ left_by made (take (length xs - n) xs) xs → Applies (paired n (reverse xs)) result (reverse new)
+    result ≡ told made → new ≡ left_by made (take (length xs - n) xs) xs → Replaces (paired n (reverse xs)) result (reverse new)
 put_together n xs new made result there tells is left =
-    subst (λ a. Applies a result (reverse new)) (sym (paired_is n xs there)) (subst (λ r. Applies (combed (reverse (drop (length xs - n) xs)), reverse (take (length xs - n) xs)) r (reverse new)) (sym is)
-    (subst (λ l. Applies (combed (reverse (drop (length xs - n) xs)), reverse (take (length xs - n) xs)) (told made) (reverse l)) (sym left)
+    subst (λ a. Replaces a result (reverse new)) (sym (paired_is n xs there)) (subst (λ r. Replaces (combed (reverse (drop (length xs - n) xs)), reverse (take (length xs - n) xs)) r (reverse new)) (sym is)
+    (subst (λ l. Replaces (combed (reverse (drop (length xs - n) xs)), reverse (take (length xs - n) xs)) (told made) (reverse l)) (sym left)
     (settled (combed (reverse (drop (length xs - n) xs))) made (take (length xs - n) xs) xs tells)))
 
 -- two and three operands on top of a stack
@@ -91,7 +90,7 @@ rest_of h ys = let long = length-drop h ys in grind (arith, common_steps)
 
 pub put_slice_together : (n height : ℕ) (xs slice new : List Val) (made : Result Val DataEnd) (result : Result (Unit {0}) DataEnd) → slice ≡ xs → height ≡ length xs → n ≤ height →
     Tells made (combed (reverse (take (length slice - (height - n)) (drop (height - n) slice)))) →
-    result ≡ told made → new ≡ left_by made (take (length xs - n) xs) xs → Applies (paired n (reverse xs)) result (reverse new)
+    result ≡ told made → new ≡ left_by made (take (length xs - n) xs) xs → Replaces (paired n (reverse xs)) result (reverse new)
 put_slice_together n height xs slice new made result same tall there tells is left =
     put_together n xs new made result (subst (λ h. n ≤ h) tall there)
     (subst (λ l. Tells made (combed (reverse l))) (rest_of (height - n) slice ∙ ap (drop (height - n)) same ∙ ap (λ h. drop (h - n) xs) tall) tells) is left

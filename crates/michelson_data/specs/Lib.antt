@@ -1,10 +1,10 @@
 -- what the public contracts rest on
 pub mod Form
-pub mod Applies
+pub mod Replaces
 -- what functions inside promise each other
 pub mod Tells
 pub mod Settled
 pub mod Operands
 pub mod AgainstZero
 pub mod Pairing
-pub mod Changes
+pub mod Sized

@@ -3,7 +3,7 @@ use Rattle.std.specs.Prelude.{◌≡◌, Result, Ok, Err, IfSome}
 use Rattle.value_core.specs.declared.val.Val.{Val}
 use Rattle.michelson_rules.specs.Answers.{Answer, Ends, Misses, gives}
 use Rattle.michelson_data.specs.declared.fault.DataEnd.{DataEnd}
-use Rattle.michelson_data.specs.Applies.{cause_of}
+use Rattle.michelson_data.specs.Replaces.{cause_of}
 
 -- this is what the table gives, or the cause that it names; want of memory tells nothing
 abbrev pub Tells : Result Val DataEnd → Answer → Type 0

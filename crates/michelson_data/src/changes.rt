@@ -7,16 +7,15 @@ ghost use Rattle.value_core.specs.Sorted.{keys_of, put, with_key, without, witho
 ghost use Rattle.value_core.specs.Sound.{ascends};
 ghost use Rattle.michelson_rules.specs.Answers.{on_entry, on_key, sized};
 ghost use Rattle.michelson_rules.specs.Collections as rule;
-ghost use Rattle.michelson_data.specs.Applies.{Applies};
-ghost use Rattle.michelson_data.specs.Changes as change;
+ghost use Rattle.michelson_data.specs.Replaces.{Replaces};
+ghost use Rattle.michelson_data.specs.Sized.{IsSizedOf};
 
 use crate::fault::DataEnd;
-use crate::keys::{found, place_in_map, place_in_set};
+use crate::keys::found;
 use crate::rows::within;
 use sqlite_items::Items;
 use std::alloc::{AllocError, Global};
-use std::mem;
-use value_core::{NoMemory, Val};
+use value_core::{NoMemory, Val, place_in_map, place_in_set};
 
 /// Room for the items and one more.
 fn room_for<T>(alloc: Global, items: &[T]) -> Result<Vec<T>, NoMemory>
@@ -40,28 +39,6 @@ fn inserted<T: Drop>(mut room: Vec<T>, mut items: Items<T>, at: usize, item: T) 
     room.reverse();
     let _ = room.insert(at, item);
     Items::from_vec(room)
-}
-
-/// The items of a list; any other value is given back.
-fn into_list(alloc: Global, mut v: Val) -> Result<Items<Val>, Val>
-    ensures list { IfOk result (λ items. v ≡ Val.List items) }
-    ensures other { IfErr result (λ given. given ≡ v) }
-{
-    if let Val::List(items) = &mut v {
-        return Ok(mem::replace(items, Items::new(alloc)));
-    }
-    Err(v)
-}
-
-/// The items of a set; any other value is given back.
-fn into_set(alloc: Global, mut v: Val) -> Result<Items<Val>, Val>
-    ensures set { IfOk result (λ items. v ≡ Val.Set items) }
-    ensures other { IfErr result (λ given. given ≡ v) }
-{
-    if let Val::Set(items) = &mut v {
-        return Ok(mem::replace(items, Items::new(alloc)));
-    }
-    Err(v)
 }
 
 /// A set with the key or without it; or what was given, where memory ran out.
@@ -89,25 +66,31 @@ fn set_changed(
     }
 }
 
-/// A map with the value at the key; or what was given, where memory ran out.
+/// A map with what the option has at the key; or what was given, where memory ran out.
 fn map_with(
     alloc: Global,
     key: Val,
-    value: Val,
+    choice: Val,
     mut entries: Items<(Val, Val)>,
-) -> Result<Items<(Val, Val)>, (Val, Items<(Val, Val)>)>
-    ensures changed { IfOk result (λ new. IsTrue (ascends (keys_of entries)) →
-        new ≡ put order key value entries) }
-    ensures kept { IfErr result (λ given. given ≡ (key, entries)) }
+) -> Result<Items<(Val, Val)>, (Val, Val, Items<(Val, Val)>)>
+    ensures changed { IfOk result (λ new. (value : Val) → choice ≡ Val.Some value →
+        IsTrue (ascends (keys_of entries)) → new ≡ put order key value entries) }
+    ensures kept { IfErr result (λ given. given ≡ (key, choice, entries)) }
 {
     match place_in_map(entries.as_slice(), &key) {
-        Ok(at) => {
-            entries.set(at, (key, value));
-            Ok(entries)
-        }
+        Ok(at) => match choice.into_part() {
+            Ok(value) => {
+                entries.set(at, (key, value));
+                Ok(entries)
+            }
+            Err(choice) => Err((key, choice, entries)),
+        },
         Err(at) => match room_for(alloc, entries.as_slice()) {
-            Ok(room) => Ok(inserted(room, entries, at, (key, value))),
-            Err(_) => Err((key, entries)),
+            Ok(room) => match choice.into_part() {
+                Ok(value) => Ok(inserted(room, entries, at, (key, value))),
+                Err(choice) => Err((key, choice, entries)),
+            },
+            Err(_) => Err((key, choice, entries)),
         },
     }
 }
@@ -122,65 +105,47 @@ fn map_without(key: &Val, mut entries: Items<(Val, Val)>) -> Items<(Val, Val)>
     entries
 }
 
-/// Why a set or a map wasn't changed.
-enum Unmade {
-    /// It would be too large.
-    TooLarge,
-    /// Memory ran out, or the operands are of no such kinds: the key, and the set or map.
-    Kept(Val, Val),
-}
-
-/// What is made, unless it is too large.
-fn whole(v: Val) -> Result<Val, Unmade>
-    ensures made { change.Makes result (sized v) }
-    ensures kept { (x of : Val) → change.Keeps result x of }
+/// A set or a map with the choice at the key; or what was given, where memory ran out or the
+/// operands are of no such kinds.
+fn changed(alloc: Global, key: Val, choice: Val, of: Val) -> Result<Val, (Val, Val, Val)>
+    ensures changed { IfOk result (λ made.
+        IsSizedOf made (rule.updated key (out-Val choice) (out-Val of))) }
+    ensures kept { IfErr result (λ given. given ≡ (key, choice, of)) }
 {
-    match within(v) {
-        Ok(v) => Ok(v),
-        Err(_) => Err(Unmade::TooLarge),
-    }
-}
-
-/// A set or a map with the choice at the key.
-fn changed(alloc: Global, key: Val, choice: &Val, of: Val) -> Result<Val, Unmade>
-    ensures changed { change.MakesIf result (rule.updated key (out-Val choice.now) (out-Val of)) }
-    ensures kept { change.Keeps result key of }
-{
-    match choice {
-        Val::Bool(there) => match into_set(alloc, of) {
+    match &choice {
+        Val::Bool(there) => match of.into_set() {
             Ok(items) => match set_changed(alloc, key, *there, items) {
-                Ok(items) => whole(Val::Set(items)),
-                Err((key, items)) => Err(Unmade::Kept(key, Val::Set(items))),
+                Ok(items) => Ok(Val::Set(items)),
+                Err((key, items)) => Err((key, choice, Val::Set(items))),
             },
-            Err(of) => Err(Unmade::Kept(key, of)),
+            Err(of) => Err((key, choice, of)),
         },
         Val::Nothing => match of.into_entries() {
-            Ok(entries) => whole(Val::Map(map_without(&key, entries))),
-            Err(of) => Err(Unmade::Kept(key, of)),
+            Ok(entries) => Ok(Val::Map(map_without(&key, entries))),
+            Err(of) => Err((key, choice, of)),
         },
-        Val::Some(value) => match (value.get().copy(alloc), of.into_entries()) {
-            (Ok(value), Ok(entries)) => match map_with(alloc, key, value, entries) {
-                Ok(entries) => whole(Val::Map(entries)),
-                Err((key, entries)) => Err(Unmade::Kept(key, Val::Map(entries))),
+        Val::Some(_) => match of.into_entries() {
+            Ok(entries) => match map_with(alloc, key, choice, entries) {
+                Ok(entries) => Ok(Val::Map(entries)),
+                Err((key, choice, entries)) => Err((key, choice, Val::Map(entries))),
             },
-            (Err(_), Ok(entries)) => Err(Unmade::Kept(key, Val::Map(entries))),
-            (_, Err(of)) => Err(Unmade::Kept(key, of)),
+            Err(of) => Err((key, choice, of)),
         },
-        _ => Err(Unmade::Kept(key, of)),
+        _ => Err((key, choice, of)),
     }
 }
 
-/// A list with the item in front.
-fn consed(alloc: Global, x: Val, of: Val) -> Result<Val, Unmade>
-    ensures made { change.Makes result (rule.in_front x (out-Val of)) }
-    ensures kept { change.Keeps result x of }
+/// A list with the item in front; or what was given, where memory ran out or there is no list.
+fn consed(alloc: Global, x: Val, of: Val) -> Result<Val, (Val, Val)>
+    ensures made { IfOk result (λ made. rule.in_front x (out-Val of) ≡ sized made) }
+    ensures kept { IfErr result (λ given. given ≡ (x, of)) }
 {
-    match into_list(alloc, of) {
+    match of.into_list() {
         Ok(items) => match room_for(alloc, items.as_slice()) {
-            Ok(room) => whole(Val::List(inserted(room, items, 0, x))),
-            Err(_) => Err(Unmade::Kept(x, Val::List(items))),
+            Ok(room) => Ok(Val::List(inserted(room, items, 0, x))),
+            Err(_) => Err((x, Val::List(items))),
         },
-        Err(of) => Err(Unmade::Kept(x, of)),
+        Err(of) => Err((x, of)),
     }
 }
 
@@ -194,9 +159,23 @@ fn take(stack: &mut Vec<Val>) -> Val
     stack.pop().unwrap()
 }
 
+/// Puts what was made on top, unless it is too large.
+fn put_sized(stack: &mut Vec<Val>, made: Val) -> Result<(), DataEnd>
+    requires { vec_len stack.old < vec_capacity stack.old }
+    ensures applies { Replaces (sized made, reverse stack.old.items) result
+        (reverse stack.new.items) }
+    ensures refused { IfErr result (λ e. e ≡ DataEnd.TooLarge) }
+    ensures capacity { vec_capacity stack.new ≡ vec_capacity stack.old }
+    ensures len { vec_len stack.new ≤ vec_len stack.old + 1 }
+{
+    let made = within(made)?;
+    stack.push_reserved(made);
+    Ok(())
+}
+
 /// Puts the item on top in front of the list below it.
 pub(crate) fn in_front(alloc: Global, stack: &mut Vec<Val>) -> Result<(), DataEnd>
-    ensures applies { Applies (on_key rule.in_front (reverse stack.old.items)) result
+    ensures applies { Replaces (on_key rule.in_front (reverse stack.old.items)) result
         (reverse stack.new.items) }
     ensures unchanged { result ≡ Err DataEnd.NoMemory → stack.new.items ≡ stack.old.items }
 {
@@ -206,12 +185,8 @@ pub(crate) fn in_front(alloc: Global, stack: &mut Vec<Val>) -> Result<(), DataEn
     let x = take(stack);
     let of = take(stack);
     match consed(alloc, x, of) {
-        Ok(made) => {
-            stack.push_reserved(made);
-            Ok(())
-        }
-        Err(Unmade::TooLarge) => Err(DataEnd::TooLarge),
-        Err(Unmade::Kept(x, of)) => {
+        Ok(made) => put_sized(stack, made),
+        Err((x, of)) => {
             stack.push_reserved(of);
             stack.push_reserved(x);
             Err(DataEnd::NoMemory)
@@ -221,10 +196,9 @@ pub(crate) fn in_front(alloc: Global, stack: &mut Vec<Val>) -> Result<(), DataEn
 
 /// Makes a set or a map with the choice at the key of the three on top.
 pub(crate) fn updated(alloc: Global, stack: &mut Vec<Val>) -> Result<(), DataEnd>
-    ensures applies { Applies (on_entry rule.updated (reverse stack.old.items)) result
+    ensures applies { Replaces (on_entry rule.updated (reverse stack.old.items)) result
         (reverse stack.new.items) }
     ensures unchanged { result ≡ Err DataEnd.NoMemory → stack.new.items ≡ stack.old.items }
-    ensures room { OnOk result (vec_len stack.new < vec_capacity stack.new) }
 {
     if stack.len() < 3 {
         return Err(DataEnd::NoMemory);
@@ -232,19 +206,15 @@ pub(crate) fn updated(alloc: Global, stack: &mut Vec<Val>) -> Result<(), DataEnd
     let key = take(stack);
     let choice = take(stack);
     let of = take(stack);
-    match changed(alloc, key, &choice, of) {
-        Ok(made) => {
-            stack.push_reserved(made);
-            Ok(())
-        }
-        Err(Unmade::TooLarge) => Err(DataEnd::TooLarge),
-        Err(Unmade::Kept(key, of)) => put_back(stack, key, choice, of),
+    match changed(alloc, key, choice, of) {
+        Ok(made) => put_sized(stack, made),
+        Err((key, choice, of)) => put_back(stack, key, choice, of),
     }
 }
 
 /// The same, with what was at the key on top.
 pub(crate) fn updated_with_old(alloc: Global, stack: &mut Vec<Val>) -> Result<(), DataEnd>
-    ensures applies { Applies (on_entry rule.updated_with_old (reverse stack.old.items)) result
+    ensures applies { Replaces (on_entry rule.updated_with_old (reverse stack.old.items)) result
         (reverse stack.new.items) }
     ensures unchanged { result ≡ Err DataEnd.NoMemory → stack.new.items ≡ stack.old.items }
 {
@@ -255,14 +225,13 @@ pub(crate) fn updated_with_old(alloc: Global, stack: &mut Vec<Val>) -> Result<()
     let choice = take(stack);
     let of = take(stack);
     match found(alloc, &key, &of) {
-        Ok(old) => match changed(alloc, key, &choice, of) {
+        Ok(old) => match changed(alloc, key, choice, of) {
             Ok(made) => {
-                stack.push_reserved(made);
+                put_sized(stack, made)?;
                 stack.push_reserved(old);
                 Ok(())
             }
-            Err(Unmade::TooLarge) => Err(DataEnd::TooLarge),
-            Err(Unmade::Kept(key, of)) => put_back(stack, key, choice, of),
+            Err((key, choice, of)) => put_back(stack, key, choice, of),
         },
         Err(_) => put_back(stack, key, choice, of),
     }

@@ -3,7 +3,7 @@
 ghost use Rattle.std.specs.Prelude.{◌≡◌, Err, reverse};
 ghost use Rattle.michelson_rules.specs.Bodies.{Meaning};
 ghost use Rattle.michelson_rules.specs.Plain.{data_at};
-ghost use Rattle.michelson_data.specs.Applies.{Applies};
+ghost use Rattle.michelson_data.specs.Replaces.{Replaces};
 ghost use Rattle.michelson_data.specs.Form.{form};
 
 use crate::changes::{in_front, updated, updated_with_old};
@@ -18,7 +18,7 @@ use value_core::Val;
 
 /// Does with the stack, whose last item is its top, what the table says of the instruction.
 pub fn apply(alloc: Global, op: DataOp, stack: &mut Vec<Val>) -> Result<(), DataEnd>
-    ensures applies { Applies (data_at {A = Meaning} (form op) (reverse stack.old.items)) result
+    ensures applies { Replaces (data_at {A = Meaning} (form op) (reverse stack.old.items)) result
         (reverse stack.new.items) }
     ensures unchanged { result ≡ Err DataEnd.NoMemory → stack.new.items ≡ stack.old.items }
 {

@@ -1,22 +1,22 @@
 //! Pairs to the right: put together, and taken apart.
 
-ghost use Rattle.std.specs.Prelude.{◌+◌, ◌++◌, ◌-◌, ◌<◌, ◌≡◌, ◌^◌, ◌≤◌, ◌∷◌, [], Err, IfOk, IsTrue, List, Some, is_some, length, min, reverse, sum_by, vec_capacity, vec_len};
+ghost use Rattle.std.specs.Prelude.{◌+◌, ◌++◌, ◌-◌, ◌<◌, ◌≡◌, ◌^◌, ◌≤◌, ◌↔◌, ◌∷◌, [], Err, IfOk, IsTrue, List, Some, is_some, length, min, reverse, sum_by, vec_capacity, vec_len};
 ghost use Rattle.value_core.specs.Size.{size_of};
 ghost use Rattle.michelson_rules.specs.Plain as rule;
 ghost use Rattle.michelson_rules.specs.Answers.{on_any};
-ghost use Rattle.michelson_data.specs.Applies.{Applies};
+ghost use Rattle.michelson_data.specs.Replaces.{Replaces};
 ghost use Rattle.michelson_data.specs.Pairing.{comb_up};
 ghost use Rattle.michelson_data.specs.Tells.{Tells};
 
 use crate::fault::DataEnd;
 use crate::stack::settle;
 use std::alloc::Global;
-use value_core::{NoMemory, Val, pair, size};
+use value_core::{NoMemory, Val, is_within_size, pair, size};
 
-/// Makes pairs to the right of so many. They are copied: a box that isn't had would take a part
-/// with it, and want of memory leaves the stack as it was.
+/// Makes pairs to the right of so many. They are copied: a box takes its value at once, so one that
+/// isn't had would take a part with it, and want of memory leaves the stack as it was.
 pub(crate) fn together(alloc: Global, stack: &mut Vec<Val>, n: u32) -> Result<(), DataEnd>
-    ensures applies { Applies (rule.paired n (reverse stack.old.items)) result
+    ensures applies { Replaces (rule.paired n (reverse stack.old.items)) result
         (reverse stack.new.items) }
     ensures unchanged { result ≡ Err DataEnd.NoMemory → stack.new.items ≡ stack.old.items }
 {
@@ -33,21 +33,24 @@ fn combed(alloc: Global, parts: &[Val]) -> Result<Val, DataEnd>
     requires { 1 ≤ length parts.now }
     ensures { Tells result (rule.combed (reverse parts.now)) }
 {
-    if size_of_all(parts) > 4096 {
+    if !are_within_size(parts, 4096) {
         return Err(DataEnd::TooLarge);
     }
     Ok(comb_up(alloc, parts)?)
 }
 
-/// The size of all, or 2^64 - 1 where it is greater.
-fn size_of_all(parts: &[Val]) -> u64
-    ensures { result ≡ min (sum_by size_of parts.now) (2 ^ 64 - 1) }
+/// Whether all together are at most so large; no part is looked at further than there is room left.
+fn are_within_size(parts: &[Val], most: u64) -> bool
+    ensures { IsTrue result ↔ (sum_by size_of parts.now ≤ most) }
 {
-    let mut total: u64 = 0;
+    let mut left = most;
     for part in parts {
-        total = total.saturating_add(size(part));
+        if !is_within_size(part, left) {
+            return false;
+        }
+        left -= size(part);
     }
-    total
+    true
 }
 
 fn comb_up(alloc: Global, parts: &[Val]) -> Result<Val, NoMemory>
@@ -63,7 +66,7 @@ fn comb_up(alloc: Global, parts: &[Val]) -> Result<Val, NoMemory>
 
 /// Takes pairs to the right apart into so many.
 pub(crate) fn apart(stack: &mut Vec<Val>, n: u32) -> Result<(), DataEnd>
-    ensures applies { Applies (on_any (λ v. rule.in_parts (rule.parts_of_comb n v)) (reverse stack.old.items))
+    ensures applies { Replaces (on_any (λ v. rule.in_parts (rule.parts_of_comb n v)) (reverse stack.old.items))
         result (reverse stack.new.items) }
     ensures unchanged { result ≡ Err DataEnd.NoMemory → stack.new.items ≡ stack.old.items }
 {
@@ -107,18 +110,21 @@ fn spread(v: Val, n: usize, stack: &mut Vec<Val>)
     requires room { vec_len stack.old + n ≤ vec_capacity stack.old }
     ensures parts { (parts : List Val) → rule.parts_of_comb n v ≡ Some parts →
         stack.new.items ≡ stack.old.items ++ reverse parts }
-    ensures height { vec_len stack.new ≤ vec_len stack.old + n }
-    ensures capacity { vec_capacity stack.new ≡ vec_capacity stack.old }
 {
-    if n < 2 {
-        stack.push_reserved(v);
-        return;
-    }
-    match v.into_pair() {
-        Ok((first, rest)) => {
-            spread(rest, n - 1, stack);
-            stack.push_reserved(first);
+    let below = stack.len();
+    let mut rest = v;
+    for _ in 1..n {
+        match rest.into_pair() {
+            Ok((first, after)) => {
+                stack.push_reserved(first);
+                rest = after;
+            }
+            Err(other) => {
+                stack.push_reserved(other);
+                return;
+            }
         }
-        Err(other) => stack.push_reserved(other),
     }
+    stack.push_reserved(rest);
+    stack[below..].reverse();
 }

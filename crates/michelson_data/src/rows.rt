@@ -8,7 +8,7 @@ ghost use Rattle.value_core.specs.Leaves.{is_printable};
 ghost use Rattle.michelson_rules.specs.Answers.{gives, sized};
 ghost use Rattle.michelson_rules.specs.Collections as rule;
 ghost use Rattle.michelson_rules.specs.Plain as plain;
-ghost use Rattle.michelson_data.specs.Applies.{Applies};
+ghost use Rattle.michelson_data.specs.Replaces.{Replaces};
 ghost use Rattle.michelson_data.specs.Tells.{Tells};
 
 use crate::fault::DataEnd;
@@ -133,7 +133,7 @@ fn bytes(bytes: Vec<u8>) -> Result<Val, DataEnd>
 
 /// Strings or bytes on the stack in a row: two, or the strings of a list.
 pub(crate) fn concatenated(alloc: Global, stack: &mut Vec<Val>) -> Result<(), DataEnd>
-    ensures applies { Applies (plain.concatenated (reverse stack.old.items)) result
+    ensures applies { Replaces (plain.concatenated (reverse stack.old.items)) result
         (reverse stack.new.items) }
     ensures unchanged { result ≡ Err DataEnd.NoMemory → stack.new.items ≡ stack.old.items }
 {

@@ -3,7 +3,7 @@
 ghost use Rattle.std.specs.Prelude.{◌-◌, ◌≡◌, ◌≤◌, Err, length, reverse, take};
 ghost use Rattle.value_core.specs.declared.val.Val.TheViews.{out-Val};
 ghost use Rattle.michelson_rules.specs.Answers as rule;
-ghost use Rattle.michelson_data.specs.Applies.{Applies};
+ghost use Rattle.michelson_data.specs.Replaces.{Replaces};
 ghost use Rattle.michelson_data.specs.Operands as table;
 ghost use Rattle.michelson_data.specs.Settled.{left_by, told};
 ghost use Rattle.michelson_data.specs.Tells.{Tells, TellsIf};
@@ -50,7 +50,7 @@ pub(crate) fn settle(
 
 /// An instruction on the top.
 pub(crate) fn on_one(alloc: Global, op: DataOp, stack: &mut Vec<Val>) -> Result<(), DataEnd>
-    ensures applies { Applies (rule.on_one (table.of_one op) (reverse stack.old.items))
+    ensures applies { Replaces (rule.on_one (table.of_one op) (reverse stack.old.items))
         result (reverse stack.new.items) }
     ensures unchanged { result ≡ Err DataEnd.NoMemory → stack.new.items ≡ stack.old.items }
 {
@@ -64,7 +64,7 @@ pub(crate) fn on_one(alloc: Global, op: DataOp, stack: &mut Vec<Val>) -> Result<
 
 /// An instruction on the two on top.
 pub(crate) fn on_two(alloc: Global, op: DataOp, stack: &mut Vec<Val>) -> Result<(), DataEnd>
-    ensures applies { Applies (rule.on_both (table.of_two op) (reverse stack.old.items))
+    ensures applies { Replaces (rule.on_both (table.of_two op) (reverse stack.old.items))
         result (reverse stack.new.items) }
     ensures unchanged { result ≡ Err DataEnd.NoMemory → stack.new.items ≡ stack.old.items }
 {

@@ -2,7 +2,7 @@
 
 ghost use Rattle.std.specs.Prelude.{◌≡◌, ◌∷◌, [], reverse, ◌++◌, MatchOption, OnOk, OnErr, length, take, drop, ◌≤◌, ◌<◌, ◌+◌, IfOk, Some, None, slice_get};
 ghost use Rattle.std.specs.Option.{option_copied};
-ghost use Rattle.michelson_data.specs.Applies.{Applies};
+ghost use Rattle.michelson_data.specs.Replaces.{Replaces};
 ghost use Rattle.michelson_machine.specs.Made.{made_by};
 ghost use Rattle.value_core.specs.declared.val.Val.TheViews.{out-Val};
 ghost use Rattle.michelson_rules.specs.BigMaps.{change_on_top, key_on_top};
@@ -137,9 +137,9 @@ impl<T: Drop> Pile<T> {
 }
 
 impl Pile<Val> {
-    /// Applies an operation to the top.
+    /// Replaces an operation to the top.
     pub fn apply(&mut self, alloc: Global, op: DataOp) -> Result<(), DataEnd>
-        ensures { Applies (made_by op self.old) result self.new }
+        ensures { Replaces (made_by op self.old) result self.new }
     {
         apply(alloc, op, &mut self.items)
     }

@@ -1,11 +1,8 @@
--- Want of memory comes freely.
-use Rattle.std.proofs.Common.{sym, subst, reverse}
-use Rattle.michelson_rules.specs.Answers.{on_entry}
-use Rattle.michelson_rules.specs.Collections.{updated}
-use Rattle.michelson_data.specs.Applies.{Applies}
-use Rattle.michelson_data.proofs.StackLaws.{no_memory}
+-- The changed set or map in the place of the three operands.
+use Rattle.std.proofs.Common.{reverse}
+use Rattle.michelson_data.proofs.OldLaws.{entry_put}
 use Rattle.michelson_data.proofs.changes.updated.Goals as goal
 
-pub returns-in-Err-Kept-clause-applies : goal.returns-in-Err-Kept-clause-applies
-returns-in-Err-Kept-clause-applies c = subst (λ r. Applies (on_entry updated (reverse c.args.stack.now.items)) r (reverse c.put_back.new.stack.items))
-    (sym c.put_back.ensures.refused) (no_memory (on_entry updated (reverse c.args.stack.now.items)) (reverse c.put_back.new.stack.items))
+pub returns-in-Ok-clause-applies : goal.returns-in-Ok-clause-applies
+returns-in-Ok-clause-applies c = entry_put c.take-key.result c.take-choice.result c.take-of.result c.in-Ok.made c.take-of.new.stack.items c.take-choice.new.stack.items c.take-key.new.stack.items
+    c.args.stack.now.items (reverse c.put_sized.new.stack.items) c.put_sized.result c.take-key.ensures.items c.take-choice.ensures.items c.take-of.ensures.items c.in-Ok.ensures.changed c.put_sized.ensures.applies

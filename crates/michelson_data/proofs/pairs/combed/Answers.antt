@@ -1,9 +1,10 @@
 -- Pairs are as large as their parts together.
+use Rattle.std.proofs.Common.{refl}
 use Rattle.michelson_data.proofs.PairLaws.{large_comb, small_comb}
 use Rattle.michelson_data.proofs.pairs.combed.Goals as goal
 
-pub returns-then-size_of_all-gt4096 : goal.returns-then-size_of_all-gt4096
-returns-then-size_of_all-gt4096 c = large_comb c.args.parts.now c.size_of_all.result c.requires c.size_of_all.ensures c.if-size_of_all-gt4096.true
+pub returns-then-not-are_within_size : goal.returns-then-not-are_within_size
+returns-then-not-are_within_size c = large_comb c.args.parts.now c.requires c.if-not-are_within_size.ensures.1
 
 pub returns : goal.returns
-returns c = small_comb c.args.parts.now c.size_of_all.result c.in_ok-comb_up.field-0 c.requires c.size_of_all.ensures c.if-size_of_all-gt4096.false c.in_ok-comb_up.ensures
+returns c = small_comb c.args.parts.now c.in_ok-comb_up.field-0 c.requires (c.if-not-are_within_size.ensures.0 refl) c.in_ok-comb_up.ensures

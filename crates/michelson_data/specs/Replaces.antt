@@ -15,8 +15,8 @@ cause_of end.TooLarge = Some why.TooLarge
 cause_of end.NoMemory = None
 
 -- results come in the place of the operands; at a failure these are gone; where the table has no line nothing is promised
-abbrev pub Applies : {T : Type 0} → Answered → Result T DataEnd → List Val → Type 0
-Applies (Gives results, below) answer stack = MatchResult answer (λ done. stack ≡ results ++ below) (λ e. e ≡ end.NoMemory)
-Applies (Ends y, below) answer stack =
+abbrev pub Replaces : {T : Type 0} → Answered → Result T DataEnd → List Val → Type 0
+Replaces (Gives results, below) answer stack = MatchResult answer (λ done. stack ≡ results ++ below) (λ e. e ≡ end.NoMemory)
+Replaces (Ends y, below) answer stack =
     MatchResult answer (λ done. ⊥) (λ e. IfSome (cause_of e) (λ told. (told ≡ y) × (stack ≡ below)))
-Applies (Misses, below) answer stack = ⊤
+Replaces (Misses, below) answer stack = ⊤
