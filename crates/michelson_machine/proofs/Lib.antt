@@ -1,8 +1,10 @@
 pub mod Piles
-pub mod Runs
 pub mod Levels
 pub mod CostLaws
 pub mod StepLaws
 pub mod LoopLaws
 pub mod ReturnLaws
+pub mod StorageLaws
+pub mod StableLaws
+pub mod OrderLaws
 pub mod TurnLaws

@@ -15,28 +15,28 @@ use Rattle.michelson_rules.specs.Rules.{answered, gathered, mapped}
 use Rattle.michelson_rules.specs.EachRun.{LoopsOn}
 use Rattle.michelson_machine.specs.declared.frame.While.{While}
 use Rattle.michelson_machine.specs.declared.frame.While.TheVariants as while
-use Rattle.michelson_machine.specs.Resume.{entries_of, finished, goes_on, mapping, with_top}
+use Rattle.michelson_machine.specs.Resume.{entries_of, finished, loops_on, mapping, with_top}
 use Rattle.michelson_machine.specs.Steps.{keys_in, started}
-use Rattle.michelson_machine.proofs.Runs.{then_alike, then_assoc}
+use Rattle.michelson_rules.proofs.ThenDo.{then_alike, then_assoc}
 
 -- a loop that goes on starts its body, and then goes on
-pub loop_on : (kind : While) (run : List Instr → Meaning) → LoopsOn (goes_on kind) run →
-    (body : List Instr) (stack more : List Val) (beside : Beside) → by_top (goes_on kind) stack ≡ On more →
-    looped (goes_on kind) (run body) stack beside ≡ started (run body) (looped (goes_on kind) (run body)) more beside
+pub loop_on : (kind : While) (run : List Instr → Meaning) → LoopsOn (loops_on kind) run →
+    (body : List Instr) (stack more : List Val) (beside : Beside) → by_top (loops_on kind) stack ≡ On more →
+    looped (loops_on kind) (run body) stack beside ≡ started (run body) (looped (loops_on kind) (run body)) more beside
 loop_on kind run law body stack more beside e =
-    law body stack beside ∙ ap (λ a. once_more (run body) (looped (goes_on kind) (run body)) a beside) e
+    law body stack beside ∙ ap (λ a. once_more (run body) (looped (loops_on kind) (run body)) a beside) e
 
 -- with true on top
-pub true_on : (stack below : List Val) (top : Val) → stack ≡ top ∷ below → top ≡ value.Bool true → by_top (goes_on while.True) stack ≡ On below
+pub true_on : (stack below : List Val) (top : Val) → stack ≡ top ∷ below → top ≡ value.Bool true → by_top (loops_on while.True) stack ≡ On below
 true_on stack below top e f =
     let shows : out-Val (value.Bool true) ≡ is.Bool true = search (std_rules, the_lemmas) in
-    ap (by_top (goes_on while.True)) e ∙ ap (λ x. goes_on while.True x below) (ap out-Val f ∙ shows)
+    ap (by_top (loops_on while.True)) e ∙ ap (λ x. loops_on while.True x below) (ap out-Val f ∙ shows)
 
 -- with the left of an `or` on top
-pub left_on : (stack below : List Val) (top part : Val) → stack ≡ top ∷ below → top ≡ value.Left part → by_top (goes_on while.Left) stack ≡ On (part ∷ below)
+pub left_on : (stack below : List Val) (top part : Val) → stack ≡ top ∷ below → top ≡ value.Left part → by_top (loops_on while.Left) stack ≡ On (part ∷ below)
 left_on stack below top part e f =
     let shows : out-Val (value.Left part) ≡ is.Left part = search (std_rules, the_lemmas) in
-    ap (by_top (goes_on while.Left)) e ∙ ap (λ x. goes_on while.Left x below) (ap out-Val f ∙ shows)
+    ap (by_top (loops_on while.Left)) e ∙ ap (λ x. loops_on while.Left x below) (ap out-Val f ∙ shows)
 
 -- ---- items
 

@@ -1,29 +1,15 @@
 -- What a contract returns, item by item.
-use Rattle.std.proofs.Common.{◌≡◌, ℕ, List, [], ◌∷◌, ◌++◌, length, take, drop, map, refl, sym, ap, ◌∙◌, append_assoc}
+use Rattle.std.proofs.Common.{◌≡◌, ℕ, List, [], ◌∷◌, ◌++◌, map, refl, sym, ap, ◌∙◌, append_assoc}
 use Rattle.std.specs.List.{flat_map}
-use Rattle.std.proofs.lemmas.List.{take-append-drop}
 use Rattle.std.proofs.lemmas.List.Concat.{flat_map-cons}
-use Rattle.std.proofs.Math.Seq.{drop-append_seam, take-append_seam}
 use Rattle.value_core.specs.declared.val.Val.{Val}
 use Rattle.value_core.specs.declared.val.Val.TheOpen as is
 use Rattle.value_core.specs.declared.val.Val.TheVariants as value
 use Rattle.value_core.specs.declared.val.Val.TheVariants.{rolls-List, rolls-Map, rolls-Set}
 use Rattle.value_core.specs.declared.val.Val.TheFolds.{fold-roll-Val}
 use Rattle.value_core.specs.Layer.{as_emit, flat}
-use Rattle.michelson_rules.specs.Returned.{Change, big_maps_in, in_order, insert_change}
+use Rattle.michelson_rules.specs.Returned.{big_maps_in}
 use Rattle.michelson_machine.specs.Ends.{big_maps_of_entry}
-
--- one change more, from the last
-pub order_step : (all before left : List Change) (c : Change) (sorted more : List Change) →
-    before ≡ left ++ c ∷ [] → before ≡ take (length before) all → sorted ≡ in_order (drop (length before) all) → more ≡ insert_change c sorted →
-    (more ≡ in_order (drop (length left) all)) × (left ≡ take (length left) all)
-order_step all before left c sorted more last first order put =
-    let rest : List Change = drop (length before) all in
-    let whole : all ≡ left ++ c ∷ rest =
-    sym (take-append-drop (length before) all) ∙ ap (λ z. z ++ rest) (sym first ∙ last) ∙ append_assoc left (c ∷ []) rest in
-    let behind : drop (length left) all ≡ c ∷ rest = ap (drop (length left)) whole ∙ drop-append_seam left (c ∷ rest) in
-    let front : take (length left) all ≡ left = ap (take (length left)) whole ∙ take-append_seam left (c ∷ rest) in
-    (put ∙ ap (insert_change c) order ∙ sym (ap in_order behind), sym front)
 
 -- one after another, of lists that are made of items
 flat_ids : (vs : List Val) → flat_map (λ (ms : List (ℕ × ℕ)). ms) (map big_maps_in vs) ≡ flat_map big_maps_in vs

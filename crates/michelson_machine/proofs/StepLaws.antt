@@ -18,22 +18,22 @@ use Rattle.michelson_machine.proofs.CostLaws.{rule_is}
 use Rattle.michelson_machine.specs.declared.state.State.{State}
 use Rattle.michelson_machine.specs.declared.state.Step.{Step}
 use Rattle.michelson_machine.specs.Resume.{beside_of, first, resumed}
-use Rattle.michelson_machine.specs.Steps.{Goes, Tells, act_at, acted}
+use Rattle.michelson_machine.specs.Steps.{Enacts, Foretells, act_at, acted}
 
 -- what comes is the same from another state on, with something else to do first
-pub goes_by : {E : Type 0} (f g : World → Meaning) (old middle new : State) (r : Result Step E) →
-    ((w : World) → NeverMisses (first w (f w) old) → first w (f w) old ≡ first w (g w) middle) → Goes g middle new r → Goes f old new r
-goes_by f g old middle new (Err e) same goes = tt
-goes_by f g old middle new (Ok s) same goes = λ w never.
+pub enacts_by : {E : Type 0} (f g : World → Meaning) (old middle new : State) (r : Result Step E) →
+    ((w : World) → NeverMisses (first w (f w) old) → first w (f w) old ≡ first w (g w) middle) → Enacts g middle new r → Enacts f old new r
+enacts_by f g old middle new (Err e) same goes = tt
+enacts_by f g old middle new (Ok s) same goes = λ w never.
     let e : first w (f w) old ≡ first w (g w) middle = same w never in
-    let P : Outcome (List Val) → Type 0 = λ o. Tells w s o new in
+    let P : Outcome (List Val) → Type 0 = λ o. Foretells w s o new in
     subst P (sym e) (goes w (subst NeverMisses e never))
 
 -- an instruction does what its one level does
 pub acted_by : {E : Type 0} (m : State) (i : Instr) (x : Instr-F Instr) (new : State) (r : Result Step E) →
-    out-Instr i ≡ x → Goes (λ w. act_at m w x) m new r → Goes (λ w. acted m w i) m new r
+    out-Instr i ≡ x → Enacts (λ w. act_at m w x) m new r → Enacts (λ w. acted m w i) m new r
 acted_by {E} m i x new r e goes =
-    let P : Instr-F Instr → Type 0 = λ y. Goes (λ w. act_at m w y) m new r in
+    let P : Instr-F Instr → Type 0 = λ y. Enacts (λ w. act_at m w y) m new r in
     subst P (sym e) goes
 
 -- room that there is, is taken

@@ -27,9 +27,9 @@ use Rattle.michelson_machine.specs.declared.state.State.{State}
 -- ---- frames
 
 -- when a loop goes on
-abbrev pub goes_on : While → Layer Val → List Val → Again
-goes_on while.True = while_true
-goes_on while.Left = while_left
+abbrev pub loops_on : While → Layer Val → List Val → Again
+loops_on while.True = while_true
+loops_on while.Left = while_left
 
 -- keys with these values
 abbrev pub entries_of : List Val → List Val → List (Val × Val)
@@ -61,7 +61,7 @@ module _ (s : Script) (env : Env) (w : World) where
   does (frame.Rest code) stack beside = rules charges s env w code.now stack beside
   does (frame.Under x) stack beside = ends (Return (x ∷ stack) beside)
   does (frame.UnderAll xs) stack beside = ends (Return (reverse xs ++ stack) beside)
-  does (frame.Again while body) stack beside = looped (goes_on while) (rules charges s env w body.now) stack beside
+  does (frame.Again while body) stack beside = looped (loops_on while) (rules charges s env w body.now) stack beside
   does (frame.Each body items) stack beside = each (rules charges s env w body.now) items stack beside
   does (frame.Mapping m) stack beside = with_top (λ y. mapping (rules charges s env w m.body.now) m.keys (m.done ++ y ∷ []) m.items) stack beside
 

@@ -24,19 +24,19 @@ use Rattle.michelson_machine.specs.declared.state.Step.TheVariants as step
 use Rattle.michelson_machine.specs.Resume.{does, answer_does, ask_of, beside_of, first, outcome_at, work_at}
 
 -- what a step says of what comes
-abbrev pub Tells : World → Step → Outcome (List Val) → State → Type 0
-Tells w step.On before m = before ≡ outcome_at w m
-Tells w (step.Ask look) before m = before ≡ Asked (ask_of look) m.left (first w (answer_does look (reply_of w (ask_of look))) m)
-Tells w (step.Fail y) before m = before ≡ Ended (Failed y) m.left
-Tells w step.Return before m = before ≡ Ended (Return m.stack (beside_of m)) m.left
+abbrev pub Foretells : World → Step → Outcome (List Val) → State → Type 0
+Foretells w step.On before m = before ≡ outcome_at w m
+Foretells w (step.Ask look) before m = before ≡ Asked (ask_of look) m.left (first w (answer_does look (reply_of w (ask_of look))) m)
+Foretells w (step.Fail y) before m = before ≡ Ended (Failed y) m.left
+Foretells w step.Return before m = before ≡ Ended (Return m.stack (beside_of m)) m.left
 
 -- where this is done first and nothing is missed, a step says what comes, in every world
-abbrev pub Goes : {E : Type 0} → (World → Meaning) → State → State → Result Step E → Type 0
-Goes meaning old new result = IfOk result (λ step. (w : World) → NeverMisses (first w (meaning w) old) → Tells w step (first w (meaning w) old) new)
+abbrev pub Enacts : {E : Type 0} → (World → Meaning) → State → State → Result Step E → Type 0
+Enacts meaning old new result = IfOk result (λ step. (w : World) → NeverMisses (first w (meaning w) old) → Foretells w step (first w (meaning w) old) new)
 
 -- the same of the next step
-abbrev pub GoesOn : {E : Type 0} → State → State → Result Step E → Type 0
-GoesOn old new result = IfOk result (λ step. (w : World) → NeverMisses (outcome_at w old) → Tells w step (outcome_at w old) new)
+abbrev pub Resumes : {E : Type 0} → State → State → Result Step E → Type 0
+Resumes old new result = IfOk result (λ step. (w : World) → NeverMisses (outcome_at w old) → Foretells w step (outcome_at w old) new)
 
 -- what a step that isn't the last takes from the work
 abbrev pub toll : Step → ℕ

@@ -10,7 +10,7 @@ ghost use Rattle.michelson_rules.specs.Metered.{less_room};
 ghost use Rattle.michelson_rules.specs.Rules.{balance, changed_map, changed_map_with_old, contract, looked_up_as, or_plain};
 ghost use Rattle.michelson_rules.specs.Bodies.{on_top};
 ghost use Rattle.michelson_machine.specs.Resume.{answer_does, changed_on, changing, taken, work_at};
-ghost use Rattle.michelson_machine.specs.Steps.{Goes, Nearer, above, ends_on, keyed_on};
+ghost use Rattle.michelson_machine.specs.Steps.{Enacts, Nearer, above, ends_on, keyed_on};
 
 use crate::look::{Change, Key, Look};
 use crate::state::{State, Step};
@@ -22,7 +22,7 @@ use value_core::{NoMemory, Val, size, some};
 impl<'a> State<'a> {
     /// `MEM`.
     pub fn has(&mut self, alloc: Global) -> Result<Step<'a>, NoMemory>
-        ensures same { Goes (λ w stack. or_plain (made_by DataOp.Mem stack) (key_on_top stack)
+        ensures same { Enacts (λ w stack. or_plain (made_by DataOp.Mem stack) (key_on_top stack)
             (looked_up_as w (λ v. Val.Bool (is_some v)))) self.old self.new result }
         ensures nearer { Nearer 4 self.old self.new result }
     {
@@ -34,7 +34,7 @@ impl<'a> State<'a> {
 
     /// `GET`.
     pub fn get(&mut self, alloc: Global) -> Result<Step<'a>, NoMemory>
-        ensures same { Goes (λ w stack. or_plain (made_by DataOp.Get stack) (key_on_top stack)
+        ensures same { Enacts (λ w stack. or_plain (made_by DataOp.Get stack) (key_on_top stack)
             (looked_up_as w option)) self.old self.new result }
         ensures nearer { Nearer 4 self.old self.new result }
     {
@@ -46,11 +46,11 @@ impl<'a> State<'a> {
 
     /// `UPDATE`.
     pub fn update(&mut self, alloc: Global) -> Result<Step<'a>, NoMemory>
-        ensures same { Goes (λ w stack. or_plain (made_by DataOp.Update stack)
+        ensures same { Enacts (λ w stack. or_plain (made_by DataOp.Update stack)
             (change_on_top stack) (changed_map w)) self.old self.new result }
         ensures nearer { Nearer 4 self.old self.new result }
     {
-        match self.stack.take_change(alloc)? {
+        match self.stack.take_change()? {
             None => self.data(alloc, DataOp::Update),
             Some(change) => self.change(change, None),
         }
@@ -58,18 +58,18 @@ impl<'a> State<'a> {
 
     /// `GET_AND_UPDATE`.
     pub fn get_and_update(&mut self, alloc: Global) -> Result<Step<'a>, NoMemory>
-        ensures same { Goes (λ w stack. or_plain (made_by DataOp.GetAndUpdate stack)
+        ensures same { Enacts (λ w stack. or_plain (made_by DataOp.GetAndUpdate stack)
             (change_on_top stack) (changed_map_with_old w)) self.old self.new result }
         ensures nearer { Nearer 4 self.old self.new result }
     {
-        match self.stack.take_change(alloc)? {
+        match self.stack.take_change()? {
             None => self.data(alloc, DataOp::GetAndUpdate),
             Some(change) => self.get_and_change(alloc, change),
         }
     }
 
     fn has_key(&mut self, key: Key) -> Result<Step<'a>, NoMemory>
-        ensures same { Goes (λ w stack. looked_up_as w (λ v. Val.Bool (is_some v))
+        ensures same { Enacts (λ w stack. looked_up_as w (λ v. Val.Bool (is_some v))
             (keyed_on key stack)) self.old self.new result }
         ensures nearer { Nearer 4 self.old self.new result }
     {
@@ -87,7 +87,7 @@ impl<'a> State<'a> {
     }
 
     fn get_key(&mut self, alloc: Global, key: Key) -> Result<Step<'a>, NoMemory>
-        ensures same { Goes (λ w stack. looked_up_as w option (keyed_on key stack)) self.old
+        ensures same { Enacts (λ w stack. looked_up_as w option (keyed_on key stack)) self.old
             self.new result }
         ensures nearer { Nearer 4 self.old self.new result }
     {
@@ -106,7 +106,7 @@ impl<'a> State<'a> {
     }
 
     fn get_and_change(&mut self, alloc: Global, change: Change) -> Result<Step<'a>, NoMemory>
-        ensures same { Goes (λ w stack. changed_map_with_old w (
+        ensures same { Enacts (λ w stack. changed_map_with_old w (
           changed_on change stack,
           change.choice,
         )) self.old self.new result }
@@ -124,7 +124,7 @@ impl<'a> State<'a> {
 
     /// A version more with a change; above it, where it is given, what was there before.
     fn change(&mut self, change: Change, old: Option<Val>) -> Result<Step<'a>, NoMemory>
-        ensures same { Goes (λ w stack. changing change (above old stack) stack) self.old
+        ensures same { Enacts (λ w stack. changing change (above old stack) stack) self.old
             self.new result }
         ensures still { work_at self.new ≤ work_at self.old }
     {
@@ -155,7 +155,7 @@ impl<'a> State<'a> {
         look: Look<'a>,
         v: Option<Val>,
     ) -> Result<Step<'a>, NoMemory>
-        ensures same { Goes (λ w. answer_does look.entry v) self.old self.new result }
+        ensures same { Enacts (λ w. answer_does look.entry v) self.old self.new result }
         ensures still { work_at self.new ≤ work_at self.old }
     {
         match look {
@@ -192,7 +192,7 @@ impl<'a> State<'a> {
     }
 
     fn tell(&mut self, alloc: Global, v: Option<Val>) -> Result<Step<'a>, NoMemory>
-        ensures same { Goes (λ w stack. ends_on (option v ∷ stack)) self.old self.new result }
+        ensures same { Enacts (λ w stack. ends_on (option v ∷ stack)) self.old self.new result }
         ensures still { work_at self.new ≤ work_at self.old }
     {
         let told = option(alloc, v)?;
@@ -201,7 +201,7 @@ impl<'a> State<'a> {
     }
 
     fn tell_balance(&mut self, balance: Val) -> Result<Step<'a>, NoMemory>
-        ensures same { Goes (λ w stack. taken 1 (balance ∷ stack)) self.old self.new result }
+        ensures same { Enacts (λ w stack. taken 1 (balance ∷ stack)) self.old self.new result }
         ensures still { work_at self.new ≤ work_at self.old }
     {
         if self.left.room == 0 {

@@ -11,7 +11,6 @@ ghost use Rattle.michelson_machine.specs.Steps.{keys_in};
 use crate::pile::Pile;
 use sqlite_items::Items;
 use std::alloc::{AllocError, Global};
-use std::mem;
 use value_core::{NoMemory, Val, pair};
 
 /// The first item, and the others.
@@ -47,31 +46,19 @@ pub fn in_pairs(alloc: Global, mut entries: Items<(Val, Val)>) -> Result<Pile<Va
     Ok(pile)
 }
 
-/// The items of a list or a set; any other value is given back.
-pub fn into_items(alloc: Global, mut v: Val) -> Result<Items<Val>, Val>
-    ensures list { (items : List Val) → v ≡ Val.List items → result ≡ Ok items }
-    ensures set { (items : List Val) → v ≡ Val.Set items → result ≡ Ok items }
-{
-    if let Val::List(items) | Val::Set(items) = &mut v {
-        return Ok(mem::replace(items, Items::new(alloc)));
-    }
-    Err(v)
-}
-
 /// The items of a list, set or map, from the least.
 pub fn items_of(alloc: Global, v: Val) -> Result<Pile<Val>, NoMemory>
     ensures { IfOk result (λ pile. items_of (out-Val v) ≡ Some pile) }
 {
-    match &v {
-        Val::List(_) | Val::Set(_) => match into_items(alloc, v) {
-            Err(_) => Err(AllocError),
+    match v.into_list() {
+        Ok(items) => in_a_pile(alloc, items),
+        Err(v) => match v.into_set() {
             Ok(items) => in_a_pile(alloc, items),
+            Err(v) => match v.into_entries() {
+                Ok(entries) => in_pairs(alloc, entries),
+                Err(_) => Err(AllocError),
+            },
         },
-        Val::Map(_) => match v.into_entries() {
-            Err(_) => Err(AllocError),
-            Ok(entries) => in_pairs(alloc, entries),
-        },
-        _ => Err(AllocError),
     }
 }
 

@@ -3,8 +3,8 @@
 ghost use Rattle.std.specs.Prelude.{◌≡◌, ◌∷◌, ◌++◌, []};
 ghost use Rattle.michelson_rules.specs.Rules.{iterated, mapped};
 ghost use Rattle.michelson_rules.specs.Bodies.{each, looped, on_top};
-ghost use Rattle.michelson_machine.specs.Resume.{does, finished, goes_on, mapping, with_top};
-ghost use Rattle.michelson_machine.specs.Steps.{Goes, Nearer, follows, runs, started};
+ghost use Rattle.michelson_machine.specs.Resume.{does, finished, loops_on, mapping, with_top};
+ghost use Rattle.michelson_machine.specs.Steps.{Enacts, Nearer, follows, runs, started};
 
 use crate::frame::{Frame, Mapping, While};
 use crate::items::{items_of, keys_of, made_of};
@@ -19,7 +19,7 @@ use value_core::{NoMemory, Val};
 impl<'a> State<'a> {
     /// Begins a loop.
     pub fn begin_loop(&mut self, kind: While, body: &'a [Instr]) -> Result<Step<'a>, NoMemory>
-        ensures same { Goes (λ w. looped (goes_on kind) (runs self.old w body.now)) self.old
+        ensures same { Enacts (λ w. looped (loops_on kind) (runs self.old w body.now)) self.old
             self.new result }
         ensures nearer { Nearer 4 self.old self.new result }
     {
@@ -29,7 +29,7 @@ impl<'a> State<'a> {
 
     /// Begins a body for each item.
     pub fn iter(&mut self, alloc: Global, body: &'a [Instr]) -> Result<Step<'a>, NoMemory>
-        ensures same { Goes (λ w. on_top (iterated (runs self.old w body.now))) self.old
+        ensures same { Enacts (λ w. on_top (iterated (runs self.old w body.now))) self.old
             self.new result }
         ensures nearer { Nearer 4 self.old self.new result }
     {
@@ -45,7 +45,7 @@ impl<'a> State<'a> {
 
     /// Begins a body that leaves a result for each item.
     pub fn map(&mut self, alloc: Global, body: &'a [Instr]) -> Result<Step<'a>, NoMemory>
-        ensures same { Goes (λ w. on_top (mapped (runs self.old w body.now))) self.old self.new
+        ensures same { Enacts (λ w. on_top (mapped (runs self.old w body.now))) self.old self.new
             result }
         ensures nearer { Nearer 4 self.old self.new result }
     {
@@ -60,13 +60,8 @@ impl<'a> State<'a> {
     }
 
     /// A loop at its top.
-    pub fn again(
-        &mut self,
-        alloc: Global,
-        kind: While,
-        body: &'a [Instr],
-    ) -> Result<Step<'a>, NoMemory>
-        ensures same { Goes (λ w. looped (goes_on kind) (runs self.old w body.now)) self.old
+    pub fn again(&mut self, kind: While, body: &'a [Instr]) -> Result<Step<'a>, NoMemory>
+        ensures same { Enacts (λ w. looped (loops_on kind) (runs self.old w body.now)) self.old
             self.new result }
         ensures nearer { Nearer 1 self.old self.new result }
     {
@@ -81,12 +76,12 @@ impl<'a> State<'a> {
                     _ => Err(AllocError),
                 },
                 While::Left => match &top {
-                    Val::Left(part) => {
-                        self.stack.push(part.get().copy(alloc)?)?;
+                    Val::Left(_) => {
+                        self.stack.push_part(top)?;
                         self.turn(Frame::Again(kind, body), body)
                     }
-                    Val::Right(part) => {
-                        self.stack.push(part.get().copy(alloc)?)?;
+                    Val::Right(_) => {
+                        self.stack.push_part(top)?;
                         Ok(Step::On)
                     }
                     _ => Err(AllocError),
@@ -97,7 +92,7 @@ impl<'a> State<'a> {
 
     /// A body for the next of the items, where there is one.
     pub fn each(&mut self, body: &'a [Instr], mut items: Pile<Val>) -> Result<Step<'a>, NoMemory>
-        ensures same { Goes (λ w. each (runs self.old w body.now) items) self.old self.new result }
+        ensures same { Enacts (λ w. each (runs self.old w body.now) items) self.old self.new result }
         ensures nearer { Nearer 1 self.old self.new result }
     {
         match items.pop() {
@@ -111,7 +106,7 @@ impl<'a> State<'a> {
 
     /// The result of a body is on top; the next items follow.
     pub fn map_on(&mut self, alloc: Global, rest: Mapping<'a>) -> Result<Step<'a>, NoMemory>
-        ensures same { Goes (λ w. with_top (λ y. mapping (runs self.old w rest.entry.body.now)
+        ensures same { Enacts (λ w. with_top (λ y. mapping (runs self.old w rest.entry.body.now)
             rest.entry.keys (rest.entry.done ++ y ∷ []) rest.entry.items)) self.old self.new
             result }
         ensures nearer { Nearer 1 self.old self.new result }
@@ -140,7 +135,7 @@ impl<'a> State<'a> {
         keys: Option<Items<Val>>,
         done: Items<Val>,
     ) -> Result<Step<'a>, NoMemory>
-        ensures same { Goes (λ w. mapping (runs self.old w body.now) keys done items) self.old
+        ensures same { Enacts (λ w. mapping (runs self.old w body.now) keys done items) self.old
             self.new result }
         ensures nearer { Nearer 1 self.old self.new result }
     {
@@ -164,7 +159,7 @@ impl<'a> State<'a> {
 
     /// Starts a body for a turn, with a frame to follow.
     fn turn(&mut self, then: Frame<'a>, body: &'a [Instr]) -> Result<Step<'a>, NoMemory>
-        ensures same { Goes (λ w. started (runs self.old w body.now)
+        ensures same { Enacts (λ w. started (runs self.old w body.now)
             (follows self.old w then.entry))
             self.old self.new result }
         ensures nearer { Nearer 1 self.old self.new result }

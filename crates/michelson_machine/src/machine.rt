@@ -8,7 +8,7 @@ ghost use Rattle.michelson_rules.specs.Metered.{NeverMisses, Outcome, script_out
 ghost use Rattle.michelson_rules.specs.World.{World};
 ghost use Rattle.michelson_machine.specs.Outcomes.{IsSpent, Turns, answered_by, awaits, is_ready, outcome, work, asked_in};
 ghost use Rattle.michelson_machine.specs.Resume.{ask_of, work_at};
-ghost use Rattle.michelson_machine.specs.Steps.{Tells, toll};
+ghost use Rattle.michelson_machine.specs.Steps.{Foretells, toll};
 
 use crate::end::{End, Turn};
 use crate::frame::Frame;
@@ -134,7 +134,7 @@ impl<'a> Machine<'a> {
     fn turn(&mut self, alloc: Global, step: Step<'a>) -> Result<Turn, NoMemory>
         requires { IsSpent self.old }
         ensures same { IfOk result (λ turn. (w : World) (before : Outcome (List Val))
-            → Tells w step.entry before self.old.state → Turns w turn before self.new) }
+            → Foretells w step.entry before self.old.state → Turns w turn before self.new) }
         ensures awaits { IfOk result (λ turn. awaits self.new ≡ asked_in turn) }
         ensures nearer { OnOk result (work self.new
             ≤ 2 * work_at self.old.state + toll step.entry) }

@@ -1,7 +1,7 @@
 //! Items of the stack moved, copied and taken away.
 
 ghost use Rattle.michelson_rules.specs.Plain.{copied_from, dropped, dug_in, dug_out};
-ghost use Rattle.michelson_machine.specs.Steps.{Goes, Nearer, plainly};
+ghost use Rattle.michelson_machine.specs.Steps.{Enacts, Nearer, plainly};
 
 use crate::state::{State, Step};
 use std::alloc::{AllocError, Global};
@@ -10,7 +10,7 @@ use value_core::NoMemory;
 impl<'a> State<'a> {
     /// Takes so many items away.
     pub fn drop_top(&mut self, count: u32) -> Result<Step<'a>, NoMemory>
-        ensures same { Goes (plainly (dropped count)) self.old self.new result }
+        ensures same { Enacts (plainly (dropped count)) self.old self.new result }
         ensures nearer { Nearer 4 self.old self.new result }
     {
         if self.stack.len() < count as usize {
@@ -22,7 +22,7 @@ impl<'a> State<'a> {
 
     /// Copies the item of that number, counted from 1.
     pub fn dup(&mut self, alloc: Global, number: u32) -> Result<Step<'a>, NoMemory>
-        ensures same { Goes (plainly (copied_from number)) self.old self.new result }
+        ensures same { Enacts (plainly (copied_from number)) self.old self.new result }
         ensures nearer { Nearer 4 self.old self.new result }
     {
         if number == 0 {
@@ -40,7 +40,7 @@ impl<'a> State<'a> {
 
     /// Brings the item below so many others to the top.
     pub fn dig(&mut self, depth: u32) -> Result<Step<'a>, NoMemory>
-        ensures same { Goes (plainly (dug_out depth)) self.old self.new result }
+        ensures same { Enacts (plainly (dug_out depth)) self.old self.new result }
         ensures nearer { Nearer 4 self.old self.new result }
     {
         if self.stack.len() <= depth as usize {
@@ -53,7 +53,7 @@ impl<'a> State<'a> {
 
     /// Puts the top item below so many others.
     pub fn dug(&mut self, depth: u32) -> Result<Step<'a>, NoMemory>
-        ensures same { Goes (plainly (dug_in depth)) self.old self.new result }
+        ensures same { Enacts (plainly (dug_in depth)) self.old self.new result }
         ensures nearer { Nearer 4 self.old self.new result }
     {
         match self.stack.pop() {

@@ -4,6 +4,7 @@ ghost use Rattle.std.specs.Prelude.{◌≡◌, ◌∷◌, [], reverse, ◌++◌,
 ghost use Rattle.std.specs.Option.{option_copied};
 ghost use Rattle.michelson_data.specs.Replaces.{Replaces};
 ghost use Rattle.michelson_machine.specs.Made.{made_by};
+ghost use Rattle.value_core.specs.declared.val.Val.{Val};
 ghost use Rattle.value_core.specs.declared.val.Val.TheViews.{out-Val};
 ghost use Rattle.michelson_rules.specs.BigMaps.{change_on_top, key_on_top};
 ghost use Rattle.michelson_rules.specs.Collections.{chosen};
@@ -144,6 +145,19 @@ impl Pile<Val> {
         apply(alloc, op, &mut self.items)
     }
 
+    /// Puts what an option or a side of an `or` has on top.
+    pub fn push_part(&mut self, v: Val) -> Result<(), NoMemory>
+        ensures some { OnOk result ((part : Val) → v ≡ Val.Some part → self.new ≡ part ∷ self.old) }
+        ensures left { OnOk result ((part : Val) → v ≡ Val.Left part → self.new ≡ part ∷ self.old) }
+        ensures right { OnOk result ((part : Val) → v ≡ Val.Right part →
+            self.new ≡ part ∷ self.old) }
+    {
+        match v.into_part() {
+            Ok(part) => self.push(part),
+            Err(_) => Err(AllocError),
+        }
+    }
+
     /// The place and the version of a big map below so many items, where one is there.
     fn big_map_at(&self, depth: usize) -> Option<(u8, u32)>
         ensures { result ≡ place_in (slice_get self.now depth) }
@@ -176,7 +190,7 @@ impl Pile<Val> {
     }
 
     /// Takes a key, a choice and the big map below them away, where one is there.
-    pub fn take_change(&mut self, alloc: Global) -> Result<Option<Change>, NoMemory>
+    pub fn take_change(&mut self) -> Result<Option<Change>, NoMemory>
         ensures { IfOk result (λ r. MatchOption r ((change_on_top self.old ≡ None)
             × (self.new ≡ self.old))
             (λ c. change_on_top self.old ≡ Some (changed_on c self.new, c.choice))) }
@@ -188,7 +202,7 @@ impl Pile<Val> {
                     place,
                     version,
                     key,
-                    choice: chosen(alloc, &choice)?,
+                    choice: chosen(choice)?,
                 })),
                 _ => Err(AllocError),
             },
@@ -197,12 +211,15 @@ impl Pile<Val> {
 }
 
 /// What may be there, of an option.
-fn chosen(alloc: Global, v: &Val) -> Result<Option<Val>, NoMemory>
-    ensures { IfOk result (λ choice. chosen (out-Val v.now) ≡ Some choice) }
+fn chosen(v: Val) -> Result<Option<Val>, NoMemory>
+    ensures { IfOk result (λ choice. chosen (out-Val v) ≡ Some choice) }
 {
-    match v {
+    match &v {
         Val::Nothing => Ok(None),
-        Val::Some(part) => Ok(Some(part.get().copy(alloc)?)),
+        Val::Some(_) => match v.into_part() {
+            Ok(part) => Ok(Some(part)),
+            Err(_) => Err(AllocError),
+        },
         _ => Err(AllocError),
     }
 }

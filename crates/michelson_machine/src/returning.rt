@@ -2,22 +2,22 @@
 
 ghost use Rattle.std.specs.Prelude.{◌≡◌, ◌∷◌, ◌++◌, [], IfOk, OnOk, Some, map};
 ghost use Rattle.std.specs.List.{flat_map};
-ghost use Rattle.std.specs.Ordering.{is_gt};
 ghost use Rattle.value_core.specs.declared.val.Val.TheViews.{out-Val};
 ghost use Rattle.michelson_rules.specs.Metered.{Ended};
-ghost use Rattle.michelson_rules.specs.Returned.{big_maps_in, changes_in, emits_of, in_order, change_order, insert_change, operations, unversioned};
+ghost use Rattle.michelson_rules.specs.Returned.{big_maps_in, change_order, changes_in, emits_of, in_order, operations, unversioned};
 ghost use Rattle.michelson_rules.specs.Runs.{Return};
 ghost use Rattle.michelson_machine.specs.Ends.{IsEnd, big_maps_of_entry, unversioned_entry};
 ghost use Rattle.michelson_machine.specs.Resume.{beside_of, work_at};
 
 use crate::end::End;
-use crate::pile::Pile;
 use crate::state::State;
 use map_versions::Versions;
 use sqlite_items::Items;
 use std::alloc::{AllocError, Global};
 use std::cmp::Ordering;
-use value_core::{Emit, NoMemory, Val, compare, left, operation, pair, right, some};
+use value_core::{
+    Emit, NoMemory, Val, compare, has_no_big_map, left, operation, pair, right, some,
+};
 
 /// What a big map has at a key from now on, with the place of the big map.
 type Changed = (u8, Val, Option<Val>);
@@ -39,8 +39,8 @@ impl<'a> State<'a> {
                     Err(_) => Err(AllocError),
                     Ok((ops, storage)) => Ok(End::Return {
                         ops: operations(alloc, &ops)?,
-                        storage: unversioned(alloc, &storage)?,
                         changes: changes(alloc, &self.versions, &storage)?,
+                        storage: kept(alloc, storage)?,
                         left: self.left,
                     }),
                 }
@@ -79,21 +79,22 @@ fn changes(alloc: Global, versions: &Versions, storage: &Val) -> Result<Items<Ch
 {
     let mut maps = Items::new(alloc);
     collect(storage, &mut maps)?;
-    let all = all_changes(alloc, versions, maps.as_slice())?;
-    in_order(alloc, all)
+    let mut all = all_changes(alloc, versions, maps.as_slice())?;
+    sort(&mut all)?;
+    Ok(Items::from_vec(all))
 }
 
 fn all_changes(
     alloc: Global,
     versions: &Versions,
     maps: &[(u8, u32)],
-) -> Result<Items<Changed>, NoMemory>
-    ensures { IfOk result (λ made. made ≡ flat_map (changes_in versions.now) maps.now) }
+) -> Result<Vec<Changed>, NoMemory>
+    ensures { IfOk result (λ made. made.items ≡ flat_map (changes_in versions.now) maps.now) }
 {
-    let mut all = Items::new(alloc);
+    let mut all = Vec::new(alloc);
     for map in maps {
-        let more = changes_in(alloc, versions, map.0, map.1)?;
-        all.append(more)?;
+        let mut more = changes_in(alloc, versions, map.0, map.1)?;
+        all.append(&mut more)?;
     }
     Ok(all)
 }
@@ -103,68 +104,42 @@ fn changes_in(
     versions: &Versions,
     place: u8,
     version: u32,
-) -> Result<Items<Changed>, NoMemory>
-    ensures { IfOk result (λ made. made ≡ changes_in versions.now (place, version)) }
+) -> Result<Vec<Changed>, NoMemory>
+    ensures { IfOk result (λ made. made.items ≡ changes_in versions.now (place, version)) }
 {
     let mut changes = versions.changes(alloc, version)?;
-    let mut pile = Pile::new(alloc);
+    let mut made = Vec::new(alloc);
     while let Some((key, choice)) = changes.pop() {
-        pile.push((place, key, choice))?;
+        made.push((place, key, choice))?;
     }
-    in_a_row(alloc, pile)
-}
-
-fn in_a_row(alloc: Global, mut pile: Pile<Changed>) -> Result<Items<Changed>, NoMemory>
-    ensures { IfOk result (λ made. made ≡ pile) }
-{
-    let mut made = Items::new(alloc);
-    while let Some(change) = pile.pop() {
-        made.push(change)?;
-    }
+    made.reverse();
     Ok(made)
 }
 
-/// Changes by place and key; of equal ones the one that came first stays first.
-fn in_order(alloc: Global, mut changes: Items<Changed>) -> Result<Items<Changed>, NoMemory>
-    ensures { IfOk result (λ made. made ≡ in_order changes) }
+/// By place and key; of equal ones the one that came first stays first.
+fn sort(changes: &mut Vec<Changed>) -> Result<(), NoMemory>
+    ensures { OnOk result (changes.new.items ≡ in_order changes.old.items) }
 {
-    let mut sorted = Pile::new(alloc);
-    while let Some(change) = changes.pop() {
-        insert(alloc, &mut sorted, change)?;
-    }
-    in_a_row(alloc, sorted)
+    changes.sort_by(order_of)
 }
 
-#[tactic(auto, using(crate::proofs::Piles::moved_over))]
-fn insert(alloc: Global, sorted: &mut Pile<Changed>, change: Changed) -> Result<(), NoMemory>
-    ensures { OnOk result (sorted.new ≡ insert_change change sorted.old) }
-{
-    let mut aside = Pile::new(alloc);
-    'least: loop {
-        match sorted.pop() {
-            None => {
-                sorted.push(change)?;
-                return sorted.put_back(aside);
-            }
-            Some(least) => {
-                if comes_after(&change, &least) {
-                    aside.push(least)?;
-                } else {
-                    sorted.push(least)?;
-                    sorted.push(change)?;
-                    return sorted.put_back(aside);
-                }
-            }
-        }
-    }
-}
-
-fn comes_after(a: &Changed, b: &Changed) -> bool
-    ensures { result ≡ is_gt (change_order a.now b.now) }
+fn order_of(a: &Changed, b: &Changed) -> Ordering
+    ensures { result ≡ change_order a.now b.now }
 {
     match a.0.cmp(&b.0) {
-        Ordering::Equal => compare(&a.1, &b.1) == Ordering::Greater,
-        unequal => unequal == Ordering::Greater,
+        Ordering::Equal => compare(&a.1, &b.1),
+        unequal => unequal,
+    }
+}
+
+/// A storage whose big maps have no versions; one without big maps stays as it is.
+fn kept(alloc: Global, storage: Val) -> Result<Val, NoMemory>
+    ensures { IfOk result (λ made. made ≡ unversioned storage) }
+{
+    if has_no_big_map(&storage) {
+        Ok(storage)
+    } else {
+        unversioned(alloc, &storage)
     }
 }
 

@@ -5,7 +5,7 @@ ghost use Rattle.michelson_machine.specs.declared.state.Step.TheVariants as what
 ghost use Rattle.michelson_code.specs.Typing.{called};
 ghost use Rattle.michelson_rules.specs.Rules.{charges, contract, rule, rules};
 ghost use Rattle.michelson_rules.specs.Bodies.{on_top};
-ghost use Rattle.michelson_machine.specs.Steps.{Goes, GoesOn, Nearer, acted, follows, runs};
+ghost use Rattle.michelson_machine.specs.Steps.{Enacts, Resumes, Nearer, acted, follows, runs};
 
 use crate::frame::{Frame, While};
 use crate::look::Look;
@@ -20,7 +20,7 @@ impl<'a> State<'a> {
     /// Steps to the next question, or to the end.
     pub fn run(&mut self, alloc: Global) -> Result<Step<'a>, NoMemory>
         ensures stops { IfOk result (λ step. step ≢ what.On) }
-        ensures same { GoesOn self.old self.new result }
+        ensures same { Resumes self.old self.new result }
         ensures nearer { Nearer 0 self.old self.new result }
     {
         'steps: loop {
@@ -33,7 +33,7 @@ impl<'a> State<'a> {
 
     /// The next step.
     pub fn step(&mut self, alloc: Global) -> Result<Step<'a>, NoMemory>
-        ensures same { GoesOn self.old self.new result }
+        ensures same { Resumes self.old self.new result }
         ensures nearer { Nearer 0 self.old self.new result }
     {
         match self.frames.pop() {
@@ -44,7 +44,7 @@ impl<'a> State<'a> {
 
     /// What a frame does.
     fn follow(&mut self, alloc: Global, frame: Frame<'a>) -> Result<Step<'a>, NoMemory>
-        ensures same { Goes (λ w. follows self.old w frame.entry) self.old self.new result }
+        ensures same { Enacts (λ w. follows self.old w frame.entry) self.old self.new result }
         ensures nearer { Nearer 1 self.old self.new result }
     {
         match frame {
@@ -57,7 +57,7 @@ impl<'a> State<'a> {
                 self.stack.put_back(items)?;
                 Ok(Step::On)
             }
-            Frame::Again(kind, body) => self.again(alloc, kind, body),
+            Frame::Again(kind, body) => self.again(kind, body),
             Frame::Each(body, items) => self.each(body, items),
             Frame::Mapping(mapping) => self.map_on(alloc, mapping),
         }
@@ -65,7 +65,7 @@ impl<'a> State<'a> {
 
     /// The rest of a code.
     fn rest(&mut self, alloc: Global, code: &'a [Instr]) -> Result<Step<'a>, NoMemory>
-        ensures same { Goes (λ w. runs self.old w code.now) self.old self.new result }
+        ensures same { Enacts (λ w. runs self.old w code.now) self.old self.new result }
         ensures nearer { Nearer 1 self.old self.new result }
     {
         match code.split_first() {
@@ -79,7 +79,7 @@ impl<'a> State<'a> {
 
     /// The cost of an instruction comes before it.
     fn pay_for(&mut self, alloc: Global, instr: &'a Instr) -> Result<Step<'a>, NoMemory>
-        ensures same { Goes (λ w. rule charges self.old.script.now self.old.env w instr.now)
+        ensures same { Enacts (λ w. rule charges self.old.script.now self.old.env w instr.now)
             self.old self.new result }
         ensures nearer { Nearer 0 self.old self.new result }
     {
@@ -93,7 +93,7 @@ impl<'a> State<'a> {
 
     /// An instruction that is paid for.
     fn act(&mut self, alloc: Global, instr: &'a Instr) -> Result<Step<'a>, NoMemory>
-        ensures same { Goes (λ w. acted self.old w instr.now) self.old self.new result }
+        ensures same { Enacts (λ w. acted self.old w instr.now) self.old self.new result }
         ensures nearer { Nearer 4 self.old self.new result }
     {
         match instr {
@@ -123,9 +123,9 @@ impl<'a> State<'a> {
             Instr::Dip(c) => self.dip(c.as_slice()),
             Instr::DipN(n, c) => self.dip_all(alloc, *n, c.as_slice()),
             Instr::If(c, d) => self.branch(c.as_slice(), d.as_slice()),
-            Instr::IfNone(c, d) => self.if_none(alloc, c.as_slice(), d.as_slice()),
-            Instr::IfLeft(c, d) => self.if_left(alloc, c.as_slice(), d.as_slice()),
-            Instr::IfCons(c, d) => self.if_cons(alloc, c.as_slice(), d.as_slice()),
+            Instr::IfNone(c, d) => self.if_none(c.as_slice(), d.as_slice()),
+            Instr::IfLeft(c, d) => self.if_left(c.as_slice(), d.as_slice()),
+            Instr::IfCons(c, d) => self.if_cons(c.as_slice(), d.as_slice()),
             Instr::Loop(c) => self.begin_loop(While::True, c.as_slice()),
             Instr::LoopLeft(c) => self.begin_loop(While::Left, c.as_slice()),
             Instr::Iter(c) => self.iter(alloc, c.as_slice()),
@@ -178,7 +178,7 @@ impl<'a> State<'a> {
 
     /// `CONTRACT`.
     fn contract(&mut self, entry: &Option<Name>, ty: &'a Ty) -> Result<Step<'a>, NoMemory>
-        ensures same { Goes (λ w. on_top (contract w (called entry.now) ty.now)) self.old
+        ensures same { Enacts (λ w. on_top (contract w (called entry.now) ty.now)) self.old
             self.new result }
         ensures nearer { Nearer 4 self.old self.new result }
     {

@@ -8,7 +8,7 @@ ghost use Rattle.michelson_machine.specs.Made.{made_by};
 ghost use Rattle.michelson_rules.specs.Answers.{Ends, gives, on_any, on_entry, on_none, on_one, sized};
 ghost use Rattle.michelson_rules.specs.Plain.{address_of, emitted, part_of};
 ghost use Rattle.michelson_machine.specs.Resume.{work_at};
-ghost use Rattle.michelson_machine.specs.Steps.{Goes, Nearer, plainly};
+ghost use Rattle.michelson_machine.specs.Steps.{Enacts, Nearer, plainly};
 
 use crate::state::{State, Step};
 use michelson_code::Why;
@@ -20,7 +20,7 @@ use value_core::{Emit, Name, NoMemory, Num, Val, is_within_size, left, operation
 impl<'a> State<'a> {
     /// An operation on data.
     pub fn data(&mut self, alloc: Global, op: DataOp) -> Result<Step<'a>, NoMemory>
-        ensures same { Goes (plainly (made_by op)) self.old self.new result }
+        ensures same { Enacts (plainly (made_by op)) self.old self.new result }
         ensures nearer { Nearer 4 self.old self.new result }
     {
         match self.stack.apply(alloc, op) {
@@ -34,7 +34,7 @@ impl<'a> State<'a> {
 
     /// A value of its own on top.
     pub fn put(&mut self, v: Val) -> Result<Step<'a>, NoMemory>
-        ensures same { Goes (plainly (on_none v)) self.old self.new result }
+        ensures same { Enacts (plainly (on_none v)) self.old self.new result }
         ensures nearer { Nearer 4 self.old self.new result }
     {
         self.stack.push(v)?;
@@ -43,7 +43,7 @@ impl<'a> State<'a> {
 
     /// A value on top, unless it is too large.
     pub fn put_sized(&mut self, v: Val) -> Result<Step<'a>, NoMemory>
-        ensures same { Goes (plainly (λ stack. (sized v, stack))) self.old self.new result }
+        ensures same { Enacts (plainly (λ stack. (sized v, stack))) self.old self.new result }
         ensures nearer { Nearer 1 self.old self.new result }
     {
         if !is_within_size(&v, 4096) {
@@ -55,7 +55,7 @@ impl<'a> State<'a> {
 
     /// Unit.
     pub fn unit(&mut self) -> Result<Step<'a>, NoMemory>
-        ensures same { Goes (plainly (on_none (Val.Unit))) self.old self.new result }
+        ensures same { Enacts (plainly (on_none (Val.Unit))) self.old self.new result }
         ensures nearer { Nearer 4 self.old self.new result }
     {
         self.put(Val::Unit)
@@ -63,7 +63,7 @@ impl<'a> State<'a> {
 
     /// None of an option.
     pub fn nothing(&mut self) -> Result<Step<'a>, NoMemory>
-        ensures same { Goes (plainly (on_none (Val.Nothing))) self.old self.new result }
+        ensures same { Enacts (plainly (on_none (Val.Nothing))) self.old self.new result }
         ensures nearer { Nearer 4 self.old self.new result }
     {
         self.put(Val::Nothing)
@@ -71,7 +71,7 @@ impl<'a> State<'a> {
 
     /// The empty list.
     pub fn nil(&mut self, alloc: Global) -> Result<Step<'a>, NoMemory>
-        ensures same { Goes (plainly (on_none (Val.List []))) self.old self.new result }
+        ensures same { Enacts (plainly (on_none (Val.List []))) self.old self.new result }
         ensures nearer { Nearer 4 self.old self.new result }
     {
         self.put(Val::List(Items::new(alloc)))
@@ -79,7 +79,7 @@ impl<'a> State<'a> {
 
     /// The empty set.
     pub fn empty_set(&mut self, alloc: Global) -> Result<Step<'a>, NoMemory>
-        ensures same { Goes (plainly (on_none (Val.Set []))) self.old self.new result }
+        ensures same { Enacts (plainly (on_none (Val.Set []))) self.old self.new result }
         ensures nearer { Nearer 4 self.old self.new result }
     {
         self.put(Val::Set(Items::new(alloc)))
@@ -87,7 +87,7 @@ impl<'a> State<'a> {
 
     /// The empty map.
     pub fn empty_map(&mut self, alloc: Global) -> Result<Step<'a>, NoMemory>
-        ensures same { Goes (plainly (on_none (Val.Map []))) self.old self.new result }
+        ensures same { Enacts (plainly (on_none (Val.Map []))) self.old self.new result }
         ensures nearer { Nearer 4 self.old self.new result }
     {
         self.put(Val::Map(Items::new(alloc)))
@@ -95,7 +95,7 @@ impl<'a> State<'a> {
 
     /// A copy of a value.
     pub fn push(&mut self, alloc: Global, v: &Val) -> Result<Step<'a>, NoMemory>
-        ensures same { Goes (plainly (on_none (v.now))) self.old self.new result }
+        ensures same { Enacts (plainly (on_none (v.now))) self.old self.new result }
         ensures nearer { Nearer 4 self.old self.new result }
     {
         self.put(v.copy(alloc)?)
@@ -103,7 +103,7 @@ impl<'a> State<'a> {
 
     /// What came with the call.
     pub fn amount(&mut self) -> Result<Step<'a>, NoMemory>
-        ensures same { Goes (plainly (on_none (Val.Mutez self.old.env.amount))) self.old self.new
+        ensures same { Enacts (plainly (on_none (Val.Mutez self.old.env.amount))) self.old self.new
             result }
         ensures nearer { Nearer 4 self.old self.new result }
     {
@@ -112,7 +112,7 @@ impl<'a> State<'a> {
 
     /// Who called.
     pub fn sender(&mut self) -> Result<Step<'a>, NoMemory>
-        ensures same { Goes (plainly (on_none (Val.Addr self.old.env.sender))) self.old self.new
+        ensures same { Enacts (plainly (on_none (Val.Addr self.old.env.sender))) self.old self.new
             result }
         ensures nearer { Nearer 4 self.old self.new result }
     {
@@ -121,7 +121,7 @@ impl<'a> State<'a> {
 
     /// Who sent the operation.
     pub fn source(&mut self) -> Result<Step<'a>, NoMemory>
-        ensures same { Goes (plainly (on_none (Val.Addr self.old.env.source))) self.old self.new
+        ensures same { Enacts (plainly (on_none (Val.Addr self.old.env.source))) self.old self.new
             result }
         ensures nearer { Nearer 4 self.old self.new result }
     {
@@ -130,7 +130,7 @@ impl<'a> State<'a> {
 
     /// The address of this contract.
     pub fn own_address(&mut self) -> Result<Step<'a>, NoMemory>
-        ensures same { Goes (plainly (on_none (Val.Addr self.old.env.me))) self.old self.new
+        ensures same { Enacts (plainly (on_none (Val.Addr self.old.env.me))) self.old self.new
             result }
         ensures nearer { Nearer 4 self.old self.new result }
     {
@@ -139,7 +139,7 @@ impl<'a> State<'a> {
 
     /// The time of the block.
     pub fn now(&mut self) -> Result<Step<'a>, NoMemory>
-        ensures same { Goes (plainly (on_none (Val.Time (pos self.old.env.now)))) self.old self.new
+        ensures same { Enacts (plainly (on_none (Val.Time (pos self.old.env.now)))) self.old self.new
             result }
         ensures nearer { Nearer 4 self.old self.new result }
     {
@@ -148,7 +148,7 @@ impl<'a> State<'a> {
 
     /// The level of the block.
     pub fn level(&mut self) -> Result<Step<'a>, NoMemory>
-        ensures same { Goes (plainly (on_none (Val.Nat (pos self.old.env.level)))) self.old self.new
+        ensures same { Enacts (plainly (on_none (Val.Nat (pos self.old.env.level)))) self.old self.new
             result }
         ensures nearer { Nearer 4 self.old self.new result }
     {
@@ -157,7 +157,7 @@ impl<'a> State<'a> {
 
     /// An entry of this contract.
     pub fn own_entry(&mut self, entry: &Option<Name>) -> Result<Step<'a>, NoMemory>
-        ensures same { Goes (plainly
+        ensures same { Enacts (plainly
             (on_none (Val.Contract self.old.env.me (called entry.now)))) self.old self.new result }
         ensures nearer { Nearer 4 self.old self.new result }
     {
@@ -166,7 +166,7 @@ impl<'a> State<'a> {
 
     /// The top stays.
     pub fn keep(&mut self) -> Result<Step<'a>, NoMemory>
-        ensures same { Goes (plainly (on_any gives)) self.old self.new result }
+        ensures same { Enacts (plainly (on_any gives)) self.old self.new result }
         ensures nearer { Nearer 4 self.old self.new result }
     {
         match self.stack.pop() {
@@ -177,7 +177,7 @@ impl<'a> State<'a> {
 
     /// The first part of a pair.
     pub fn car(&mut self) -> Result<Step<'a>, NoMemory>
-        ensures same { Goes (plainly (on_one (part_of (λ x y. x)))) self.old self.new result }
+        ensures same { Enacts (plainly (on_one (part_of (λ x y. x)))) self.old self.new result }
         ensures nearer { Nearer 4 self.old self.new result }
     {
         match self.stack.pop() {
@@ -191,7 +191,7 @@ impl<'a> State<'a> {
 
     /// The second part of a pair.
     pub fn cdr(&mut self) -> Result<Step<'a>, NoMemory>
-        ensures same { Goes (plainly (on_one (part_of (λ x y. y)))) self.old self.new result }
+        ensures same { Enacts (plainly (on_one (part_of (λ x y. y)))) self.old self.new result }
         ensures nearer { Nearer 4 self.old self.new result }
     {
         match self.stack.pop() {
@@ -205,7 +205,7 @@ impl<'a> State<'a> {
 
     /// An option of the top.
     pub fn some(&mut self, alloc: Global) -> Result<Step<'a>, NoMemory>
-        ensures same { Goes (plainly (on_any (λ v. gives (Val.Some v)))) self.old self.new result }
+        ensures same { Enacts (plainly (on_any (λ v. gives (Val.Some v)))) self.old self.new result }
         ensures nearer { Nearer 4 self.old self.new result }
     {
         match self.stack.pop() {
@@ -216,7 +216,7 @@ impl<'a> State<'a> {
 
     /// The left of an `or`.
     pub fn left(&mut self, alloc: Global) -> Result<Step<'a>, NoMemory>
-        ensures same { Goes (plainly (on_any (λ v. gives (Val.Left v)))) self.old self.new result }
+        ensures same { Enacts (plainly (on_any (λ v. gives (Val.Left v)))) self.old self.new result }
         ensures nearer { Nearer 4 self.old self.new result }
     {
         match self.stack.pop() {
@@ -227,7 +227,7 @@ impl<'a> State<'a> {
 
     /// The right of an `or`.
     pub fn right(&mut self, alloc: Global) -> Result<Step<'a>, NoMemory>
-        ensures same { Goes (plainly (on_any (λ v. gives (Val.Right v)))) self.old self.new
+        ensures same { Enacts (plainly (on_any (λ v. gives (Val.Right v)))) self.old self.new
             result }
         ensures nearer { Nearer 4 self.old self.new result }
     {
@@ -239,7 +239,7 @@ impl<'a> State<'a> {
 
     /// The run ends with the top as its cause.
     pub fn fail(&mut self) -> Result<Step<'a>, NoMemory>
-        ensures same { Goes (plainly (on_any (λ v. Ends (why.Raised v)))) self.old self.new
+        ensures same { Enacts (plainly (on_any (λ v. Ends (why.Raised v)))) self.old self.new
             result }
         ensures nearer { Nearer 4 self.old self.new result }
     {
@@ -251,7 +251,7 @@ impl<'a> State<'a> {
 
     /// The address of an entry.
     pub fn address(&mut self) -> Result<Step<'a>, NoMemory>
-        ensures same { Goes (plainly (on_one address_of)) self.old self.new result }
+        ensures same { Enacts (plainly (on_one address_of)) self.old self.new result }
         ensures nearer { Nearer 4 self.old self.new result }
     {
         match self.stack.pop() {
@@ -265,7 +265,7 @@ impl<'a> State<'a> {
 
     /// A call of an entry, as an operation.
     pub fn transfer(&mut self, alloc: Global) -> Result<Step<'a>, NoMemory>
-        ensures same { Goes (plainly (on_entry emitted)) self.old self.new result }
+        ensures same { Enacts (plainly (on_entry emitted)) self.old self.new result }
         ensures nearer { Nearer 4 self.old self.new result }
     {
         match (self.stack.pop(), self.stack.pop(), self.stack.pop()) {
@@ -275,7 +275,7 @@ impl<'a> State<'a> {
     }
 
     fn emit(&mut self, alloc: Global, param: Val, sum: &Val, to: &Val) -> Result<Step<'a>, NoMemory>
-        ensures same { Goes (plainly (λ stack. on_entry emitted
+        ensures same { Enacts (plainly (λ stack. on_entry emitted
             (param ∷ sum.now ∷ to.now ∷ stack))) self.old self.new result }
         ensures nearer { Nearer 4 self.old self.new result }
     {

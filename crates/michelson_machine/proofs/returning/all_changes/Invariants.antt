@@ -4,4 +4,4 @@ use Rattle.michelson_rules.specs.Returned.{changes_in}
 use Rattle.michelson_machine.proofs.returning.all_changes.Given as goal
 
 abbrev pub invariant-loop-map : goal.invariant-loop-map
-invariant-loop-map l = l.all ≡ flat_map (changes_in l.versions) (take l.map-index l.maps)
+invariant-loop-map l = l.all.items ≡ flat_map (changes_in l.versions) (take l.map-index l.maps)

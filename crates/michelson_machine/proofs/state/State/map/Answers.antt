@@ -8,14 +8,14 @@ use Rattle.michelson_rules.specs.Metered.{outcome_of}
 use Rattle.michelson_machine.specs.declared.state.State.{State}
 use Rattle.michelson_machine.specs.Resume.{beside_of, mapping, resumed}
 use Rattle.michelson_machine.specs.Steps.{runs}
-use Rattle.michelson_machine.proofs.StepLaws.{goes_by}
+use Rattle.michelson_machine.proofs.StepLaws.{enacts_by}
 use Rattle.michelson_machine.proofs.LoopLaws.{mapped_is}
 use Rattle.michelson_machine.proofs.state.State.map.Goals as goal
 
 pub returns-in_ok-items-in-Some-clause-same : goal.returns-in_ok-items-in-Some-clause-same
 returns-in_ok-items-in-Some-clause-same c =
     let m : State = c.args.self.now in
-    goes_by (λ w. on_top (mapped (runs m w c.args.body.now)))
+    enacts_by (λ w. on_top (mapped (runs m w c.args.body.now)))
     (λ w. mapping (runs m w c.args.body.now) c.in_ok-keys-in-Some.keys c.new.result c.in_ok-items-in-Some.items)
     m (record m { stack = c.pop.new.self }) c.map_rest.new.self c.map_rest.result
     (λ w never. ap (λ (r : Run (List Val)). outcome_of m.left (then_do r (resumed m.script.now m.env w m.frames)))

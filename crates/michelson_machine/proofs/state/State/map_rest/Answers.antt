@@ -6,14 +6,14 @@ use Rattle.michelson_machine.specs.declared.frame.Frame.TheVariants as frame
 use Rattle.michelson_machine.specs.declared.state.State.{State}
 use Rattle.michelson_machine.specs.Resume.{beside_of, mapping, resumed, with_top}
 use Rattle.michelson_machine.specs.Steps.{follows, runs, started}
-use Rattle.michelson_machine.proofs.StepLaws.{goes_by}
+use Rattle.michelson_machine.proofs.StepLaws.{enacts_by}
 use Rattle.michelson_machine.proofs.LoopLaws.{map_on}
 use Rattle.michelson_machine.proofs.state.State.map_rest.Goals as goal
 
 pub returns-clause-same : goal.returns-clause-same
 returns-clause-same c =
     let m : State = c.args.self.now in
-    goes_by (λ w. mapping (runs m w c.args.body.now) c.args.keys c.args.done c.args.items)
+    enacts_by (λ w. mapping (runs m w c.args.body.now) c.args.keys c.args.done c.args.items)
     (λ w. started (runs m w c.args.body.now) (follows m w (frame.Mapping (record { body = c.args.body; items = c.pop.new.self; keys = c.args.keys; done = c.args.done }))))
     m (record m { stack = c.push.new.self }) c.turn.new.self c.turn.result
     (λ w never. ap (λ (r : Run (List Val)). outcome_of m.left (then_do r (resumed m.script.now m.env w m.frames)))
