@@ -1,0 +1,10 @@
+pub mod Over
+pub mod Counting
+pub mod Lawful
+pub mod Storing
+pub mod Walking
+pub mod Searches
+pub mod Gathering
+pub mod Copying
+pub mod Added
+pub mod Settled
