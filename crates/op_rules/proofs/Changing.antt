@@ -26,7 +26,7 @@ use Rattle.op_rules.specs.declared.op.Op.{Op}
 use Rattle.op_rules.specs.Course.{Past, footprint_from, footprint_of}
 use Rattle.op_rules.specs.Laws.{ChangesAreTouched, may_change}
 use Rattle.op_rules.specs.Operations.{first_of}
-use Rattle.op_rules.specs.Serial.{begins_with, serial}
+use Rattle.op_rules.specs.Serial.{begins_with, serial, serial_within}
 use Rattle.op_rules.proofs.Along.{IsKept, keeps_transfers, noted}
 
 -- ---- one touch more
@@ -114,7 +114,7 @@ module _ (opening : Contents) where
   }
 
   pub changes_are_touched : (book : Contracts) (head : Head) (op : Op) → ChangesAreTouched opening (serial book head op opening)
-  unfolding serial
+  unfolding serial serial_within
   changes_are_touched book head op =
       keeps_transfers Told (λ n. Told) (ChangesAreTouched opening) kept book head op.source MOST_CALLS (first_of op ∷ []) opening (begins_with op MOST_ROOM)
       (λ q differs. absurd (differs refl))

@@ -14,7 +14,7 @@ use Rattle.op_rules.specs.Course.{Past}
 use Rattle.op_rules.specs.Laws.{GetsReplies}
 use Rattle.op_rules.specs.Operations.{first_of}
 use Rattle.op_rules.specs.Replies.{Gives, after_all}
-use Rattle.op_rules.specs.Serial.{begins_with, serial}
+use Rattle.op_rules.specs.Serial.{begins_with, serial, serial_within}
 use Rattle.op_rules.specs.declared.limits.TheConstants.{MOST_CALLS, MOST_ROOM}
 use Rattle.op_rules.proofs.Along.{IsKept, keeps_transfers, noted}
 
@@ -55,7 +55,7 @@ module _ (opening : Contents) where
   }
 
   pub gets_replies : (book : Contracts) (head : Head) (op : Op) → GetsReplies opening (serial book head op opening)
-  unfolding serial
+  unfolding serial serial_within
   gets_replies book head op =
       keeps_transfers IsLeft (λ n. IsLeft) (GetsReplies opening) kept book head op.source MOST_CALLS (first_of op ∷ []) opening (begins_with op MOST_ROOM)
       (record { replies = tt; cells = refl })

@@ -16,7 +16,7 @@ use Rattle.op_rules.specs.declared.limits.TheConstants.{MOST_CALLS, MOST_ROOM}
 use Rattle.op_rules.specs.declared.op.Op.{Op}
 use Rattle.op_rules.specs.Course.{Failed, Past, Serial}
 use Rattle.op_rules.specs.Operations.{first_of}
-use Rattle.op_rules.specs.Serial.{begins_with, cells_after, cells_left, serial}
+use Rattle.op_rules.specs.Serial.{begins_with, cells_after, cells_left, serial, serial_within}
 use Rattle.op_rules.proofs.Along.{IsKept, keeps_transfers}
 
 -- a failed operation leaves the cells as they were
@@ -59,6 +59,6 @@ module _ (opening : Contents) where
   }
 
   pub supply_stays : (book : Contracts) (head : Head) (op : Op) → supply (cells_after opening (serial book head op opening)) ≡ supply opening
-  unfolding serial
+  unfolding serial serial_within
   supply_stays book head op =
       keeps_transfers HasAll Owes Stays kept book head op.source MOST_CALLS (first_of op ∷ []) opening (begins_with op MOST_ROOM) refl

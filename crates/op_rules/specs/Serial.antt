@@ -24,7 +24,7 @@ abbrev pub begins_with : Op → ℕ → Course
 begins_with op room = record { left = record { gas = op.gas; turns = op.turns; room = room }; past = [] }
 
 -- an operation of at most so many calls, in so much room
-abbrev pub serial_within : ℕ → ℕ → Contracts → Head → Op → Contents → Serial
+unfoldable pub serial_within : ℕ → ℕ → Contracts → Head → Op → Contents → Serial
 serial_within calls room book head op opening = transfers book head op.source calls (first_of op ∷ []) opening (begins_with op room)
 
 -- the serial operation

@@ -18,6 +18,8 @@ mod laws;
 mod limits;
 mod op;
 mod receipt;
+#[cfg(test)]
+mod tests;
 mod transfer;
 
 pub use batch::Batch;
