@@ -15,7 +15,7 @@ use Rattle.cell_names.proofs.Puts.{is_one, same_contents, get-with_balance}
 use Rattle.inverse_log.specs.Ends.{LeadsTo, LeadsSomewhere}
 
 abbrev pub nothing : Seen
-nothing = record { cells = empty; flight = 0; lent = λ _. None; fits = λ _. false; slots = λ _. false }
+nothing = record { cells = empty; flight = 0; lent = λ _. None; fits = λ _. true; slots = λ _. false }
 
 no_money : (a : List ℕ) → balance nothing.cells a ≡ 0
 no_money a = ap amount_in (get-empty cell_cmp (Balance a))
@@ -35,7 +35,7 @@ stays = record { lent = λ c. refl; fits = λ a. refl; slots = λ c s. s }
 
 pub undone_of_nothing : (u : Undo) → CanUndo nothing u → Undoes nothing u nothing
 undone_of_nothing undo.Nothing may = record { stays = stays; cells = refl; flight = refl }
-undone_of_nothing (undo.Put c v) may = absurd (let never : false ≡ true = may.change.fits in cc)
+undone_of_nothing (undo.Put c v) may = absurd (let never : false ≡ true = may.change.slot in cc)
 undone_of_nothing (undo.Uncredit a n) may =
     let none = no_money a in
     let few : n ≤ balance nothing.cells a = may.amount in

@@ -7,21 +7,21 @@ use std::alloc::Global;
 use std::test::Fail;
 use value_core::Address;
 
-// A store that has nothing. It keeps whose account was uncredited last.
+// A store that lends nothing, has nothing and finds any access fit. It keeps whose account was uncredited last.
 #[derive(Drop)]
 struct NoCells {
     last: Option<Address>,
 }
 
 impl Store for NoCells {
-    ghost use Rattle.std.specs.Prelude.{None, false};
+    ghost use Rattle.std.specs.Prelude.{None, false, true};
     ghost use Rattle.std.specs.FinMap.{empty};
 
     ghost seen = { λ _. record {
       cells = empty;
       flight = 0;
       lent = λ _. None;
-      fits = λ _. false;
+      fits = λ _. true;
       slots = λ _. false;
     } };
 
