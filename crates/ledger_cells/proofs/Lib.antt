@@ -8,3 +8,4 @@ pub mod Gathering
 pub mod Copying
 pub mod Added
 pub mod Settled
+pub mod Retaking

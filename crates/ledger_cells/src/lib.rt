@@ -30,3 +30,6 @@ mod walk;
 pub use cells::Cells;
 pub use fault::AddEnd;
 pub use walk::CellsWalk;
+
+#[cfg(test)]
+mod tests;
