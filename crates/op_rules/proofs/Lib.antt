@@ -5,3 +5,9 @@ pub mod Along
 pub mod Landing
 pub mod SupplyStays
 pub mod Changing
+pub mod AlikeRuns
+pub mod AlikeRules
+pub mod Steady
+pub mod Covering
+pub mod Swapping
+pub mod Reordering

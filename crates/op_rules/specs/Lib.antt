@@ -9,3 +9,5 @@ pub mod WriteRule
 pub mod SerialRule
 pub mod Serial
 pub mod Laws
+pub mod Alike
+pub mod Orders

@@ -4,7 +4,12 @@ ghost use Rattle.std.specs.Prelude.{◌≡◌, ◌↔◌, IsTrue, List, ℕ};
 ghost use Rattle.std.specs.FinMap.{get};
 ghost use Rattle.value_core.specs.declared.ty.Ty.{Ty};
 ghost use Rattle.value_core.specs.declared.val.Val.{Val};
+ghost use Rattle.michelson_code.specs.declared.script.Script.{Script};
 ghost use Rattle.michelson_code.specs.declared.why.Why.{Why};
+ghost use Rattle.michelson_rules.specs.declared.ask.Budget.{Budget};
+ghost use Rattle.michelson_rules.specs.declared.ask.Env.{Env};
+ghost use Rattle.michelson_rules.specs.Metered.{script_outcome};
+ghost use Rattle.michelson_rules.specs.World.{World};
 ghost use Rattle.cell_names.specs.declared.cell.Cell.TheVariants as cell;
 ghost use Rattle.cell_names.specs.declared.head.Head.{Head};
 ghost use Rattle.cell_names.specs.Contents.{Contents};
@@ -12,9 +17,11 @@ ghost use Rattle.cell_names.specs.Supply.{supply};
 ghost use Rattle.code_book.specs.Books.{Contracts};
 ghost use Rattle.op_rules.specs.declared.op.Op.{Op};
 ghost use Rattle.op_rules.specs.declared.transfer.Transfer.{Transfer};
-ghost use Rattle.op_rules.specs.Course.{Course, Failed};
+ghost use Rattle.op_rules.specs.Alike.{AgreeWhereSeen, AnswerAlike, IsSame, MayBeSwapped, NeverConflict, left_by};
+ghost use Rattle.op_rules.specs.Course.{Course, Failed, footprint_of};
+ghost use Rattle.op_rules.specs.Orders.{Entry, KeepsConflicts, RunsTo};
 ghost use Rattle.op_rules.specs.Laws.{ChangesAreTouched, GetsReplies};
-ghost use Rattle.op_rules.specs.Replies.{BeginWith};
+ghost use Rattle.op_rules.specs.Replies.{BeginWith, Gives};
 ghost use Rattle.op_rules.specs.SameType.{is_same_type};
 ghost use Rattle.op_rules.specs.Serial.{cells_after, serial};
 ghost use Rattle.op_rules.specs.SerialRule.{transfers};
@@ -29,6 +36,45 @@ pub fn same_types_are_equal()
 pub fn a_big_map_has_what_its_cells_have()
     ensures { (m : Contents) (self : List ℕ) (place : ℕ) (key : Val)
         → get (map_at m self place) key ≡ get m (cell.Entry self place key) }
+{}
+
+/// What a script comes to in a world, it comes to in each that answers its questions alike.
+pub fn worlds_that_answer_alike_run_alike()
+    ensures { (s : Script) (env : Env) (w v : World) (left : Budget) (param storage : Val)
+        → AnswerAlike w v (script_outcome s env w left param storage)
+        → script_outcome s env v left param storage ≡ script_outcome s env w left param storage }
+{}
+
+/// On a ledger that gives its accesses the same replies an operation makes the same accesses,
+/// spends as much, and ends alike.
+pub fn an_operation_turns_on_its_replies()
+    ensures { (book : Contracts) (head : Head) (op : Op) (m n : Contents)
+        → Gives (serial book head op m).course.past n
+        → IsSame (serial book head op m) (serial book head op n) }
+{}
+
+/// On a ledger with the same in each cell that it reads or owns an operation makes the same accesses,
+/// spends as much, and ends alike; what its credits find doesn't matter.
+pub fn an_operation_turns_on_what_it_sees()
+    ensures { (book : Contracts) (head : Head) (op : Op) (m n : Contents)
+        → AgreeWhereSeen (footprint_of (serial book head op m).course.past) m n
+        → IsSame (serial book head op m) (serial book head op n) }
+{}
+
+/// Two operations that follow one another and whose footprints don't conflict may be swapped.
+pub fn neighbours_that_never_conflict_may_be_swapped()
+    ensures { (book : Contracts) (head : Head) (a b : Op) (m : Contents)
+        → NeverConflict (footprint_of (serial book head a m).course.past)
+        (footprint_of (serial book head b (left_by book head a m)).course.past)
+        → MayBeSwapped book head a b m }
+{}
+
+/// Another order of operations, in which those that conflict stand as they stood, gives each the same
+/// receipt and the same footprint, and leaves the same cells.
+pub fn orders_that_keep_conflicts_have_one_run()
+    ensures { (book : Contracts) (head : Head) (m n : Contents) (entries others : List Entry)
+        → KeepsConflicts entries others → RunsTo book head m entries n
+        → RunsTo book head m others n }
 {}
 
 /// Transfers only add accesses to those so far.
