@@ -22,6 +22,8 @@ mod ledger;
 mod nodes;
 mod run;
 mod scripts;
+#[cfg(test)]
+mod tests;
 mod typing;
 mod values;
 mod words;

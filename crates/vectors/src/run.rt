@@ -1,6 +1,6 @@
 //! Cases of metered runs: what a script returns or how it fails, what is left, and what it asked.
 
-ghost use Rattle.std.specs.Prelude.{◌≡◌, ◌<◌, ◌^◌, None, length};
+ghost use Rattle.std.specs.Prelude.{◌≡◌, ◌<◌, ◌^◌, IfOk, IfSome, None, length};
 ghost use Rattle.michelson_machine.specs.Outcomes.{awaits};
 
 use crate::ledger::Ledger;
@@ -57,7 +57,8 @@ fn script_of(alloc: Global, word: &str) -> Result<Option<Typed>, AllocError> {
     }
 }
 
-fn typed(alloc: Global, text: &[u8]) -> Result<Option<Typed>, AllocError>
+/// The script that a text writes, where it may run.
+pub fn typed(alloc: Global, text: &[u8]) -> Result<Option<Typed>, AllocError>
     requires { length text.now < 2 ^ 32 }
 {
     let script = match read_script(alloc, text) {
@@ -121,6 +122,27 @@ fn ran(
     left: Budget,
     ledger: &Ledger,
 ) -> Result<Option<Vec<u8>>, AllocError> {
+    let Some(machine) = started(alloc, script, env, param, storage, left)? else {
+        return Ok(None);
+    };
+    let (end, asks) = run_to_the_end(alloc, machine, ledger)?;
+    match end {
+        Some(end) => Ok(Some(ended(alloc, &end, &asks)?)),
+        None => Ok(None),
+    }
+}
+
+/// A run, where the values are those of the script.
+pub fn started<'a>(
+    alloc: Global,
+    script: &'a Typed,
+    env: Env,
+    param: Val,
+    storage: Val,
+    left: Budget,
+) -> Result<Option<Machine<'a>>, AllocError>
+    ensures { IfOk result (λ begun. IfSome begun (λ machine. awaits machine ≡ None)) }
+{
     let types = script.script();
     if env.amount >= 1 << 63
         || !has_type(&param, &types.param)
@@ -129,12 +151,7 @@ fn ran(
     {
         return Ok(None);
     }
-    let machine = Machine::start(alloc, script, env, param, storage, left)?;
-    let (end, asks) = run_to_the_end(alloc, machine, ledger)?;
-    match end {
-        Some(end) => Ok(Some(ended(alloc, &end, &asks)?)),
-        None => Ok(None),
-    }
+    Ok(Some(Machine::start(alloc, script, env, param, storage, left)?))
 }
 
 /// How the run ends, and what it asked.
