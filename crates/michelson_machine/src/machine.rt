@@ -60,6 +60,7 @@ impl<'a> Machine<'a> {
             outcome w m ≡ script_outcome code.now.script env w left param storage) }
         ensures ready { IfOk result (λ m. IsTrue (is_ready m)) }
         ensures awaits { IfOk result (λ m. awaits m ≡ None) }
+        ensures work { IfOk result (λ m. work m ≡ 8 * (left.gas + left.turns) + 2) }
     {
         let script = code.script();
         let mut frames = Pile::new(alloc);
@@ -128,6 +129,13 @@ impl<'a> Machine<'a> {
             }
             _ => Err(AllocError),
         }
+    }
+
+    /// What is left to spend.
+    pub fn left(&self) -> Budget
+        ensures { result ≡ self.now.state.left }
+    {
+        self.state.left
     }
 
     /// A step that isn't followed by another one, as a turn.
