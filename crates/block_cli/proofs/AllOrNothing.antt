@@ -3,8 +3,8 @@ use Rattle.std.proofs.Common.{◌≡◌, ℕ, List, [], ◌∷◌, Option, Some,
 use Rattle.byte_fields.specs.Stops.{Stop}
 use Rattle.byte_fields.specs.Stops as stops
 use Rattle.edge_io.specs.Outside.{Outside}
-use Rattle.ledger_state.specs.Ledger.{Ledger}
-use Rattle.ledger_state.specs.Reading.{ledger_of}
+use Rattle.plain_ledger.specs.Ledger.{Ledger}
+use Rattle.plain_ledger.specs.Reading.{ledger_of}
 use Rattle.block_cli.specs.Commands.{FileName, Command, Check, Validate}
 use Rattle.block_cli.specs.Report.{malformed, not_yet}
 use Rattle.block_cli.specs.Answer.{File, Answer, bad_input, first_too_long, limited_by, limited, WritesUnder}

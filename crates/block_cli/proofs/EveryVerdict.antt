@@ -17,8 +17,8 @@ use Rattle.join_schedule.proofs.Deciding.{Either, Exception, every_below, either
 use Rattle.byte_fields.specs.Laws.{IsBytes}
 use Rattle.byte_fields.specs.Stops.{Stop}
 use Rattle.byte_fields.specs.Stops as stops
-use Rattle.ledger_state.specs.Ledger.{Ledger}
-use Rattle.ledger_state.specs.Reading.{ledger_of}
+use Rattle.plain_ledger.specs.Ledger.{Ledger}
+use Rattle.plain_ledger.specs.Reading.{ledger_of}
 use Rattle.block_codec.specs.Spelling.{spelling}
 use Rattle.block_codec.specs.Reading.{block_of}
 use Rattle.block_cli.specs.Commands.{FileName, Check, Validate}
@@ -29,7 +29,7 @@ use Rattle.block_cli.specs.Checking.{HaveAFinding, answer_of}
 use Rattle.block_cli.specs.Meaning.{ContentsHaveAnAnswer}
 use Rattle.block_codec.specs.Block.{BlockView, IsBlock}
 use Rattle.block_codec.specs.declared.transfer.Receipt.{Receipt}
-use Rattle.state_digest.specs.Digest.{digest_of}
+use Rattle.plain_digest.specs.Digest.{digest_of}
 use Rattle.block_cli.specs.declared.refusal.Refusal.TheVariants.{Malformed, NotYet, WrongParent, BadJoin, Unordered, FootprintDiffers, ReceiptDiffers, StateDiffers}
 use Rattle.block_cli.specs.Verdict.{Verdict, Refused, Accepted, StandsOn, IsOrdered, serial_run, SameFootprint, SameReceipt, TellsFirst, state_after, IsVerdictOn, IsVerdictOf, HaveAVerdict}
 

@@ -5,7 +5,7 @@ use Rattle.std.proofs.lemmas.Option.{slice_get_read}
 use Rattle.std.proofs.lemmas.Bool.{cases_lt}
 use Rattle.cell_names.specs.declared.cell.Cell.{Cell}
 use Rattle.cell_names.specs.declared.mode.Mode.{Mode}
-use Rattle.ledger_state.specs.Ledger.{Ledger, Balances}
+use Rattle.plain_ledger.specs.Ledger.{Ledger, Balances}
 use Rattle.block_codec.specs.declared.transfer.Transfer.{Transfer}
 use Rattle.block_codec.specs.declared.transfer.Receipt.{Receipt}
 use Rattle.block_codec.specs.Block.{BlockView, IsBlock}

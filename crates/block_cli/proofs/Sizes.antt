@@ -7,8 +7,8 @@ use Rattle.std.specs.FinMap.{entries, len, len-entries, len-insert, len-remove, 
 use Rattle.std.specs.Cmp.Lexicographic.{nat_list_cmp_total}
 use Rattle.std.proofs.lemmas.List.{length-append}
 use Rattle.std.proofs.lemmas.List.Concat.{flat_map-cons}
-use Rattle.ledger_state.specs.Ledger.{Ledger, Balances, balance}
-use Rattle.ledger_state.specs.Spelling.{magic, cell, spelling, IsLedger}
+use Rattle.plain_ledger.specs.Ledger.{Ledger, Balances, balance}
+use Rattle.plain_ledger.specs.Spelling.{magic, cell, spelling, IsLedger}
 use Rattle.block_codec.specs.Block.{BlockView, IsBlock}
 use Rattle.cell_names.specs.declared.cell.Cell.{Cell}
 use Rattle.cell_names.specs.declared.mode.Mode.{Mode}

@@ -5,10 +5,10 @@ use Rattle.std.specs.List.{AllByRecursion}
 use Rattle.byte_fields.specs.Stops.{Stop}
 use Rattle.byte_fields.specs.Stops as stops
 use Rattle.edge_io.specs.Outside.{most_bytes}
-use Rattle.ledger_state.specs.Ledger.{Ledger, Balances, AreBalances, supply}
-use Rattle.ledger_state.specs.Reading.{ledger_of}
-use Rattle.ledger_state.specs.Spelling.{IsLedger}
-use Rattle.ledger_state.specs.Spelling.{spelling as spelt}
+use Rattle.plain_ledger.specs.Ledger.{Ledger, Balances, AreBalances, supply}
+use Rattle.plain_ledger.specs.Reading.{ledger_of}
+use Rattle.plain_ledger.specs.Spelling.{IsLedger}
+use Rattle.plain_ledger.specs.Spelling.{spelling as spelt}
 use Rattle.block_codec.specs.Block.{BlockView, IsBlock, IsTransfer}
 use Rattle.block_codec.specs.Spelling.{spelling}
 use Rattle.block_codec.specs.Reading.{block_of}

@@ -1,7 +1,7 @@
 -- What functions inside promise each other of a block: why it is refused, or the state that it leaves.
 use Rattle.std.specs.Prelude.{◌≡◌, ◌+◌, ◌≤◌, length, Option, Some, None, Result, Ok, Err}
 use Rattle.std.specs.FinMap.{len}
-use Rattle.ledger_state.specs.Ledger.{Ledger}
+use Rattle.plain_ledger.specs.Ledger.{Ledger}
 use Rattle.block_codec.specs.Block.{BlockView}
 use Rattle.join_schedule.specs.Cover.{Cover, IsFirstUnordered}
 use Rattle.block_cli.specs.Verdict.{IsOrdered, TellsFirst, state_after, IsRefusedOn, Verdict, Refused, Accepted}

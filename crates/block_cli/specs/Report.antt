@@ -5,8 +5,8 @@ use Rattle.hex.specs.Hex.{encode_lower}
 use Rattle.value_codec.specs.Spelling.{spell}
 use Rattle.cell_names.specs.declared.cell.Cell.{Cell}
 use Rattle.cell_names.specs.declared.cell.Cell.TheVariants.{Balance, Storage, Entry}
-use Rattle.ledger_state.specs.Ledger.{Ledger}
-use Rattle.state_digest.specs.Digest.{digest_of}
+use Rattle.plain_ledger.specs.Ledger.{Ledger}
+use Rattle.plain_digest.specs.Digest.{digest_of}
 use Rattle.block_cli.specs.declared.refusal.Refusal.{Refusal}
 use Rattle.block_cli.specs.declared.refusal.Refusal.TheVariants.{Malformed, NotYet, WrongParent, BadJoin, Unordered, FootprintDiffers, ReceiptDiffers, StateDiffers}
 

@@ -2,9 +2,9 @@
 use Rattle.std.specs.Prelude.{◌≡◌, ℕ, List, [], ◌∷◌, Result, Ok, Err}
 use Rattle.byte_fields.specs.Stops.{Stop}
 use Rattle.byte_fields.specs.Stops as stops
-use Rattle.ledger_state.specs.Ledger.{Ledger}
-use Rattle.ledger_state.specs.Spelling.{spelling}
-use Rattle.ledger_state.specs.Reading.{ledger_of}
+use Rattle.plain_ledger.specs.Ledger.{Ledger}
+use Rattle.plain_ledger.specs.Spelling.{spelling}
+use Rattle.plain_ledger.specs.Reading.{ledger_of}
 use Rattle.block_cli.specs.Commands.{FileName}
 use Rattle.block_cli.specs.Report.{accepted_line, malformed, not_yet, refusal_text}
 use Rattle.block_cli.specs.Answer.{Answer, done, bad_input, refused}

@@ -4,16 +4,16 @@ use Rattle.byte_fields.specs.Stops.{Stop}
 use Rattle.byte_fields.specs.Stops as stops
 use Rattle.byte_fields.specs.Laws.{IsBytes}
 use Rattle.edge_io.specs.Outside.{most_bytes}
-use Rattle.ledger_state.specs.Ledger.{Ledger, supply}
-use Rattle.ledger_state.specs.Reading.{ledger_of}
-use Rattle.ledger_state.specs.Spelling.{IsLedger}
-use Rattle.ledger_state.specs.Spelling.{spelling as spelt}
+use Rattle.plain_ledger.specs.Ledger.{Ledger, supply}
+use Rattle.plain_ledger.specs.Reading.{ledger_of}
+use Rattle.plain_ledger.specs.Spelling.{IsLedger}
+use Rattle.plain_ledger.specs.Spelling.{spelling as spelt}
 use Rattle.block_codec.specs.Block.{BlockView, IsBlock}
 use Rattle.block_codec.specs.Spelling.{spelling}
 use Rattle.block_codec.specs.Reading.{block_of}
 use Rattle.join_schedule.specs.Joins.{AreJoins, IsFirstBad}
 use Rattle.join_schedule.specs.Cover.{Cover, IsFirstUnordered}
-use Rattle.state_digest.specs.Digest.{digest_of}
+use Rattle.plain_digest.specs.Digest.{digest_of}
 use Rattle.plain_transfers.specs.Run.{Run, run_all}
 use Rattle.block_cli.specs.declared.refusal.Refusal.{Refusal}
 use Rattle.block_cli.specs.declared.refusal.Refusal.TheVariants.{Malformed, NotYet, WrongParent, BadJoin, Unordered, FootprintDiffers, ReceiptDiffers, StateDiffers}

@@ -1,9 +1,9 @@
 //! The state after a block, with its digest.
 ghost use Rattle.std.specs.Prelude.{◌≡◌, IfOk};
-ghost use Rattle.state_digest.specs.Digest.{digest_of};
+ghost use Rattle.plain_digest.specs.Digest.{digest_of};
 
-use ledger_state::State;
-use state_digest::digest;
+use plain_digest::digest;
+use plain_ledger::State;
 use std::alloc::{AllocError, Global};
 
 /// A state with its digest, which is taken once.

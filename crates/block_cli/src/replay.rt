@@ -6,7 +6,7 @@ ghost use Rattle.block_cli.specs.Judging.{Replays};
 use crate::refusal::Refusal;
 use block_codec::{Block, Receipt};
 use cell_names::Footprint;
-use ledger_state::State;
+use plain_ledger::State;
 use plain_transfers::Overlay;
 use std::alloc::{AllocError, Global};
 

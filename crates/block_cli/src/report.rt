@@ -2,7 +2,7 @@
 ghost use Rattle.std.specs.Prelude.{◌≡◌, ◌++◌, IfOk, OnOk, codes};
 ghost use Rattle.std.specs.Fmt.{decimal};
 ghost use Rattle.hex.specs.Hex.{encode_lower};
-ghost use Rattle.state_digest.specs.Digest.{digest_of};
+ghost use Rattle.plain_digest.specs.Digest.{digest_of};
 ghost use Rattle.block_cli.specs.Report.{line, usage_line, cannot_read_line, cannot_write_line, memory_line, bad_input_line, refused_line, accepted_line, malformed, not_yet, unordered, cell_text, refusal_text};
 ghost use Rattle.block_cli.specs.Seen.{Prints};
 
@@ -10,7 +10,7 @@ use crate::print::print_three;
 use crate::refusal::Refusal;
 use cell_names::Cell;
 use edge_io::Sink;
-use ledger_state::State;
+use plain_ledger::State;
 use std::alloc::{AllocError, Global};
 use value_codec::spelling;
 use value_core::{Address, Val};

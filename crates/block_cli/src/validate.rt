@@ -4,7 +4,7 @@ ghost use Rattle.std.specs.FinMap.{len};
 ghost use Rattle.byte_fields.specs.Told.{AnswersUnlessFull};
 ghost use Rattle.cell_names.specs.Stops.{format_fault};
 ghost use Rattle.edge_io.specs.Outside.{most_bytes};
-ghost use Rattle.ledger_state.specs.Reading.{ledger_of};
+ghost use Rattle.plain_ledger.specs.Reading.{ledger_of};
 ghost use Rattle.block_cli.specs.Verdict.{Accepted};
 ghost use Rattle.block_cli.specs.Validating.{Validates, ValidatesOn, answer_to};
 ghost use Rattle.block_cli.specs.Inside.{answer_in};
@@ -15,7 +15,7 @@ use crate::report;
 use crate::verdict::{Verdict, verdict_of};
 use byte_fields::At;
 use cell_names::FormatFault;
-use ledger_state::{State, read_state, write_state};
+use plain_ledger::{State, read_state, write_state};
 use std::alloc::{AllocError, Global};
 
 /// The state that bytes spell. The bytes are let go here.

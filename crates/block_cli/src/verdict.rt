@@ -12,8 +12,8 @@ use block_codec::{Block, read_block};
 use byte_fields::At;
 use cell_names::FormatFault;
 use join_schedule::{bad_join, first_unordered};
-use ledger_state::State;
-use state_digest::digest;
+use plain_digest::digest;
+use plain_ledger::State;
 use std::alloc::{AllocError, Global};
 
 /// What a block is worth on a state.

@@ -1,159 +1,95 @@
--- The law of the whole file: what is read is a ledger and is spelt so, and every ledger is read from its spelling.
-use Rattle.std.proofs.Common.{◌≡◌, ℕ, ◌+◌, ◌<◌, ◌^◌, Bool, true, List, [], ◌∷◌, ◌++◌, length, Option, Some, None, Result, Ok, Err, refl, sym, ap, subst, ◌∙◌, arith}
-use Rattle.std.specs.Prelude.{map, sum, IfOk}
-use Rattle.std.specs.List.{flat_map, AllByRecursion}
+-- The law of the whole file: what is read can be stored and is spelt so, and what can be stored is read from its spelling.
+use Rattle.std.proofs.Common.{◌≡◌, ℕ, ◌<◌, ◌^◌, List, ◌++◌, refl, sym, ap, ◌∙◌}
+use Rattle.std.specs.Prelude.{IsTrue}
 use Rattle.std.specs.Int.{w32, w64, to_be_bytes}
-use Rattle.std.specs.FinMap.{entries, len, len-entries, is_sorted}
-use Rattle.std.specs.FinMap.Entries.{below_all}
-use Rattle.std.proofs.lemmas.List.{length-map}
-use Rattle.std.proofs.lemmas.List.Sums.{sum_by-cons}
-use Rattle.byte_fields.specs.Readers.{Reader, number, both, behind}
-use Rattle.byte_fields.specs.Laws.{IsBytes, AllAlong, Reads, ReadsWhole}
-use Rattle.byte_fields.proofs.Joined.{both_reads, made_reads}
-use Rattle.byte_fields.proofs.Whole.{whole_reads}
+use Rattle.byte_fields.specs.Readers.{Reader, number, behind, with}
+use Rattle.byte_fields.specs.Laws.{Reads, ReadsWhole}
 use Rattle.byte_fields.proofs.Digits.{wide32, wide64}
+use Rattle.byte_fields.proofs.Joined.{checked_reads, made_reads, reads_as, with_reads}
 use Rattle.byte_fields.proofs.Numbers.{behind_reads, number_reads}
-use Rattle.value_core.proofs.Bools.{both_true, first_true, second_true}
-use Rattle.value_core.proofs.PlaceLemmas.{is_Less}
-use Rattle.cell_names.specs.declared.fault.FormatStop.{FormatStop}
-use Rattle.byte_fields.specs.Told.{AnswersUnlessFull}
-use Rattle.cell_names.specs.Stops.{format_stop}
-use Rattle.ledger_state.specs.declared.holding.Holding.{Holding}
-use Rattle.ledger_state.specs.Ledger.{BalanceEntry, Ledger, Balances, AreBalances, Ascends, pair}
-use Rattle.ledger_state.specs.Holdings.{AreHoldings, balances_of, ledger_from}
-use Rattle.ledger_state.specs.Spelling.{magic, cell, spelling, IsLedger}
-use Rattle.ledger_state.specs.Reading.{Before, is_above, next, book, ledger}
-use Rattle.ledger_state.proofs.Ascending.{below_all_less}
-use Rattle.ledger_state.proofs.Changing.{R, o, IsFunded, entries_funded, balances_from_entries}
-use Rattle.ledger_state.proofs.HoldingLemmas.{entries-balances_of, unpair, balances_are}
-use Rattle.ledger_state.proofs.FieldLaws.{Follows, Follow, book_bytes, IsBook, book_reads}
+use Rattle.byte_fields.proofs.Whole.{whole_reads}
+use Rattle.cell_names.specs.Contents.{Contents}
+use Rattle.code_book.specs.Books.{Contracts}
+use Rattle.ledger_state.specs.Ledger.{Ledger, AreCells}
+use Rattle.ledger_state.specs.BookReading.{book}
+use Rattle.ledger_state.specs.Reading.{cells, ledger, with_cells}
+use Rattle.ledger_state.specs.Spelling.{CanBeStored, magic, spell_book, spell_cells, spelling}
+use Rattle.ledger_state.specs.Storages.{has_storages}
+use Rattle.ledger_state.proofs.BookLaws.{IsStoredBook, book_reads}
+use Rattle.ledger_state.proofs.CellLaws.{AreFit, contents_reads}
+use Rattle.ledger_state.proofs.FitLaws.{tidy_from}
+use Rattle.ledger_state.proofs.StorageLaws.{housed_from, housed_to}
 
--- ---- one after the other, and all of them
+abbrev AreHeld : Contracts → Contents → Type 0
+AreHeld contracts m = AreFit contracts m × IsTrue (has_storages contracts m)
 
--- what these amounts are together
-abbrev total_of : List BalanceEntry → ℕ
-total_of es = sum (map (λ (e : BalanceEntry). e.1) es)
+pub cells_reads : (contracts : Contracts) → Reads (cells contracts) spell_cells (AreHeld contracts)
+cells_reads contracts = checked_reads (has_storages contracts) (contents_reads contracts)
 
-total_of-cons : (e : BalanceEntry) (es : List BalanceEntry) → total_of (e ∷ es) ≡ e.1 + total_of es
-total_of-cons e es = sum_by-cons (λ n. n) e.1 (map (λ (e : BalanceEntry). e.1) es)
+-- these are the cells of a state
+pub are_cells : (contracts : Contracts) (m : Contents) → AreHeld contracts m → AreCells contracts m
+are_cells contracts m good = record {
+  values = good.0.fit;
+  storages = housed_from contracts m good.1;
+  tidy = tidy_from contracts m good.0.fit;
+  supply = good.0.within;
+}
 
--- each key is above the last one, where there is one
-abbrev are_above : Option (List ℕ) → List BalanceEntry → Bool
-are_above None es = true
-are_above (Some last) es = below_all R last es
+abbrev state_of : ℕ → ℕ → Contracts → Contents → Ledger
+state_of level now contracts m = record { level = level; now = now; book = contracts; cells = m }
 
--- what holdings that follow each other are together
-record Together (before : Before) (es : List BalanceEntry) : Type 0 where
-  ascend : is_sorted R es ≡ true
-  above : are_above before.0 es ≡ true
-  funded : AllByRecursion IsFunded es
-  within : before.1 < 2 ^ 63 → before.1 + total_of es < 2 ^ 63
+-- the state has this head and this book
+record IsAt (level now : ℕ) (contracts : Contracts) (s : Ledger) : Type 0 where
+  at_level : s.level ≡ level
+  at_now : s.now ≡ now
+  of_book : s.book ≡ contracts
 
-are_above-cons : (last : Option (List ℕ)) (e : BalanceEntry) (es : List BalanceEntry) → is_above last e.0 ≡ true → below_all R e.0 es ≡ true → are_above last (e ∷ es) ≡ true
-are_above-cons None e es a h = refl
-are_above-cons (Some last) e es a h = both_true _ _ a (below_all_less o last e.0 es (is_Less _ a) h)
+-- and its cells are those of the book
+abbrev IsWith : ℕ → ℕ → Contracts → Ledger → Type 0
+IsWith level now contracts s = IsAt level now contracts s × AreHeld contracts s.cells
 
-above_first : (last : Option (List ℕ)) (e : BalanceEntry) (es : List BalanceEntry) → are_above last (e ∷ es) ≡ true → is_above last e.0 ≡ true
-above_first None e es h = refl
-above_first (Some last) e es h = first_true _ _ h
+with_cells_reads : (level now : ℕ) (contracts : Contracts) → Reads (with_cells level now contracts) (λ s. spell_cells s.cells) (IsWith level now contracts)
+with_cells_reads level now contracts =
+    made_reads (state_of level now contracts) (λ (s : Ledger). s.cells) (λ s. spell_cells s.cells) (IsWith level now contracts)
+    (λ m good. (refl, (record { at_level = refl; at_now = refl; of_book = refl }, good)))
+    (λ s good. (good.1, (λ i. state_of (sym good.0.at_level i) (sym good.0.at_now i) (sym good.0.of_book i) s.cells)))
+    (cells_reads contracts)
 
-none_above : (last : Option (List ℕ)) → are_above last [] ≡ true
-none_above None = refl
-none_above (Some last) = refl
+abbrev WithBook : ℕ → ℕ → Ledger → Type 0
+WithBook level now s = IsStoredBook s.book × IsWith level now s.book s
 
-together : (before : Before) (hs : List Holding) → AllAlong Follows next before hs → Together before (map pair hs)
-together before [] h = record { ascend = refl; above = none_above before.0; funded = tt; within = λ lt. omega arith }
-together before (x ∷ hs) h =
-    let t = together (next before x) hs h.1 in
+with_book_reads : (level now : ℕ) → Reads (with book (λ contracts. with_cells level now contracts)) (λ s. spell_book s.book ++ spell_cells s.cells) (WithBook level now)
+with_book_reads level now = with_reads book_reads (with_cells_reads level now) (λ (s : Ledger). s.book) (λ contracts s good. good.0.of_book)
+
+abbrev WithNow : ℕ → Ledger → Type 0
+WithNow level s = (s.now < 2 ^ 64) × WithBook level s.now s
+
+with_now_reads : (level : ℕ) → Reads (with (number w64) (λ now. with book (λ contracts. with_cells level now contracts))) (λ s. to_be_bytes w64 s.now ++ (spell_book s.book ++ spell_cells s.cells)) (WithNow level)
+with_now_reads level = with_reads (number_reads w64 (2 ^ 64) wide64) (with_book_reads level) (λ (s : Ledger). s.now) (λ now s good. good.1.0.at_now)
+
+abbrev WithLevel : Ledger → Type 0
+WithLevel s = (s.level < 2 ^ 32) × WithNow s.level s
+
+stored_from : (s : Ledger) → WithLevel s → CanBeStored s
+stored_from s good =
+    let cells = good.1.1.1.1 in
     record {
-      ascend = both_true _ _ t.above t.ascend;
-      above = are_above-cons before.0 (pair x) (map pair hs) h.0.0.1 t.above;
-      funded = ((h.0.0.0, h.0.1.0), t.funded);
-      within = λ lt. omega (arith, t.within h.0.1.1, total_of-cons (pair x) (map pair hs));
+      lawful = record { level = good.0; now = good.1.0; book = good.1.1.0.book; cells = are_cells s.book s.cells cells };
+      few = cells.0.few;
+      scripts = good.1.1.0.writable;
+      cells = cells.0.spelt;
     }
 
-along : (before : Before) (hs : List Holding) → Ascends hs → are_above before.0 (map pair hs) ≡ true → AllByRecursion IsFunded (map pair hs) → before.1 + total_of (map pair hs) < 2 ^ 63 → AllAlong Follows next before hs
-along before [] s a f lt = tt
-along before (x ∷ hs) s a f lt =
-    let sum_is : total_of (map pair (x ∷ hs)) ≡ x.amount + total_of (map pair hs) = total_of-cons (pair x) (map pair hs) in
-    (((f.0.0, above_first before.0 (pair x) (map pair hs) a), (f.0.1, omega arith)), along (next before x) hs (second_true _ _ s) (first_true _ _ s) f.1 (omega arith))
+from_stored : (s : Ledger) → CanBeStored s → WithLevel s
+from_stored s good = (
+  good.lawful.level,
+  (good.lawful.now, (record { book = good.lawful.book; writable = good.scripts }, (record { at_level = refl; at_now = refl; of_book = refl }, (
+    record { few = good.few; fit = good.lawful.cells.values; spelt = good.cells; within = good.lawful.cells.supply },
+    housed_to s.book s.cells good.lawful.cells.storages,
+  )))),
+)
 
-pub AreHoldings-from_follow : (n : ℕ) (hs : List Holding) → Follow n hs → AreHoldings hs
-AreHoldings-from_follow n hs h =
-    let t = together (None, 0) hs h.1 in
-    let is : entries (balances_of hs) ≡ map pair hs = entries-balances_of hs t.ascend in
-    record {
-      ascend = t.ascend;
-      lawful = balances_from_entries (balances_of hs) (subst (AllByRecursion IsFunded) (sym is) t.funded)
-          (subst (λ (es : List BalanceEntry). total_of es < 2 ^ 63) (sym is) (omega (arith, t.within (omega arith))));
-    }
-
-follow_from_balances : (m : Balances) (hs : List Holding) → map pair hs ≡ entries m → AreBalances m → Follow (length hs) hs
-follow_from_balances m hs is h =
-    (refl, along (None, 0) hs (balances_are hs m is).0 refl (subst (AllByRecursion IsFunded) (sym is) (entries_funded m h)) (subst (λ (es : List BalanceEntry). 0 + total_of es < 2 ^ 63) (sym is) (omega (arith, h.within))))
-
--- ---- the file
-
--- level, now and holdings, as they stand in the file
-abbrev Parts : Type 0
-Parts = ℕ × (ℕ × List Holding)
-
-abbrev parts : Reader Parts
-parts = behind magic (both (number w32) (both (number w64) book))
-
-abbrev from_parts : Parts → Ledger
-from_parts p = ledger_from p.0 p.1.0 p.1.1
-
-abbrev to_parts : Ledger → Parts
-to_parts s = (s.level, (s.now, map unpair (entries s.balances)))
-
-abbrev AreParts : Parts → Type 0
-AreParts p = (p.0 < 2 ^ 32) × ((p.1.0 < 2 ^ 64) × IsBook p.1.1)
-
-abbrev parts_bytes : Parts → List ℕ
-parts_bytes p = magic ++ (to_be_bytes w32 p.0 ++ (to_be_bytes w64 p.1.0 ++ (to_be_bytes w32 0 ++ book_bytes p.1.1)))
-
-parts_reads : Reads parts parts_bytes AreParts
-parts_reads = behind_reads magic (both_reads ((number_reads w32 (2 ^ 32) wide32)) (both_reads ((number_reads w64 (2 ^ 64) wide64)) book_reads))
-
-abbrev holding_bytes : List Holding → List ℕ
-holding_bytes hs = flat_map (λ h. cell (pair h)) hs
-
-holding_bytes-pairs : (hs : List Holding) → holding_bytes hs ≡ flat_map cell (map pair hs)
-holding_bytes-pairs [] = refl
-holding_bytes-pairs (h ∷ hs) = ap (λ (bytes : List ℕ). cell (pair h) ++ bytes) (holding_bytes-pairs hs)
-
--- the spelling, by its count and its cells
-abbrev spelt : ℕ → ℕ → ℕ → List ℕ → List ℕ
-spelt level now n bytes = magic ++ to_be_bytes w32 level ++ to_be_bytes w64 now ++ to_be_bytes w32 0 ++ to_be_bytes w32 n ++ bytes
-
-pairs_back : (es : List BalanceEntry) → map pair (map unpair es) ≡ es
-pairs_back [] = refl
-pairs_back (e ∷ es) = ap (λ (es : List BalanceEntry). e ∷ es) (pairs_back es)
-
-from_good : (p : Parts) → AreParts p → (parts_bytes p ≡ spelling (from_parts p)) × IsLedger (from_parts p)
-from_good p good =
-    let hs : List Holding = p.1.1 in
-    let are : AreHoldings hs = AreHoldings-from_follow (length hs) hs good.1.1.1 in
-    let is : map pair hs ≡ entries (balances_of hs) = sym (entries-balances_of hs are.ascend) in
-    let count : length hs ≡ len (balances_of hs) = sym (length-map hs pair) ∙ ap length is ∙ sym (len-entries (balances_of hs)) in
-    let body : holding_bytes hs ≡ flat_map cell (entries (balances_of hs)) = holding_bytes-pairs hs ∙ ap (flat_map cell) is in
-    (λ i. spelt p.0 p.1.0 (count i) (body i), record { level = good.0; now = good.1.0; few = subst (λ n. n < 2 ^ 32) count good.1.1.0; balances = are.lawful })
-
-to_good : (s : Ledger) → IsLedger s → AreParts (to_parts s) × (from_parts (to_parts s) ≡ s)
-to_good s good =
-    let hs : List Holding = map unpair (entries s.balances) in
-    let is : map pair hs ≡ entries s.balances = pairs_back (entries s.balances) in
-    let count : length hs ≡ len s.balances = length-map (entries s.balances) unpair ∙ sym (len-entries s.balances) in (
-      (good.level, (good.now, (subst (λ n. n < 2 ^ 32) (sym count) good.few, follow_from_balances s.balances hs is good.balances))),
-      ap (λ (m : Balances). let l : Ledger = record { level = s.level; now = s.now; balances = m } in l) (balances_are hs s.balances is).1,
-    )
-
-pub ledger_reads : ReadsWhole ledger spelling IsLedger
+pub ledger_reads : ReadsWhole ledger spelling CanBeStored
 unfolding ledger
-ledger_reads = whole_reads (made_reads from_parts to_parts spelling IsLedger from_good to_good parts_reads)
-
--- what a book has read are holdings of a state
-pub book_lawful : {X : Type 0} (view : X → List Holding × List ℕ) (bytes : List ℕ) (r : Result X FormatStop) → IsBytes bytes → AnswersUnlessFull format_stop view r (book bytes) → IfOk r (λ x. AreHoldings (view x).0)
-book_lawful view bytes (Ok x) fits is = AreHoldings-from_follow (length (view x).0) (view x).0 (book_reads.takes bytes (view x).0 (view x).1 fits is).1.1
-book_lawful view bytes (Err e) fits is = tt
+ledger_reads = whole_reads (reads_as spelling CanBeStored (λ s good. (refl, stored_from s good)) from_stored (behind_reads magic
+    (with_reads (number_reads w32 (2 ^ 32) wide32) with_now_reads (λ (s : Ledger). s.level) (λ level s good. good.1.1.0.at_level))))

@@ -1,91 +1,69 @@
--- Reading a ledger from the front of its file, and where it stops.
-use Rattle.std.specs.Prelude.{ℕ, ◌+◌, ◌^◌, ◌&&◌, Bool, true, List, length, Option, Some, None, Result, nat_lt, nat_le, ◌==◌, map}
-use Rattle.std.specs.Int.{w8, w32, w64}
-use Rattle.std.specs.Ordering.{is_lt, nat_cmp}
-use Rattle.std.specs.Cmp.Lexicographic.{slice_cmp}
+-- Reading a state from the front of its file, and where it stops.
+use Rattle.std.specs.Prelude.{ℕ, ◌+◌, ◌^◌, ◌&&◌, Bool, List, length, Option, Some, None, Result, nat_lt}
+use Rattle.std.specs.Int.{w32, w64}
 use Rattle.std.specs.FinMap.{from_sorted}
 use Rattle.byte_fields.specs.Stops.{Stop}
-use Rattle.byte_fields.specs.Readers.{Reader, number, made, both, with, checked, built, chained, behind, whole}
+use Rattle.byte_fields.specs.Readers.{Reader, number, made, with, checked, chained, behind, whole}
 use Rattle.byte_fields.specs.Told.{alone}
 use Rattle.value_core.specs.declared.val.Val.{Val}
-use Rattle.value_core.specs.declared.val.Val.TheOpen as one
-use Rattle.value_core.specs.declared.val.Val.TheViews.{out-Val}
-use Rattle.value_core.specs.Layer.{Layer}
 use Rattle.value_codec.specs.declared.tag.TheConstants.{ANY_VALUE}
-use Rattle.value_codec.specs.Reading.{address, value}
-use Rattle.cell_names.specs.Accounts.{is_implicit}
-use Rattle.ledger_state.specs.declared.holding.Holding.{Holding}
-use Rattle.ledger_state.specs.Ledger.{Ledger, pair}
+use Rattle.value_codec.specs.Reading.{value}
+use Rattle.cell_names.specs.declared.cell.Cell.{Cell}
+use Rattle.cell_names.specs.Contents.{Contents}
+use Rattle.cell_names.specs.Reading.{cell, is_above}
+use Rattle.cell_names.specs.Supply.{money_of}
+use Rattle.code_book.specs.Books.{Contracts}
+use Rattle.code_book.specs.Fits.{fits}
+use Rattle.ledger_state.specs.BookReading.{book}
+use Rattle.ledger_state.specs.Ledger.{Ledger}
 use Rattle.ledger_state.specs.Spelling.{magic}
+use Rattle.ledger_state.specs.Storages.{has_storages}
 
--- how much money one level of a value is
-abbrev pub amount_level : Layer Val → ℕ
-amount_level (one.Mutez n) = n
-amount_level _ = 0
+-- ---- cells
 
--- how much money a value is, and 0 where it is none
-abbrev pub amount_of : Val → ℕ
-amount_of v = amount_level (out-Val v)
+-- what stands before a cell: the last one, and all the money so far
+pub record Before : Type 0 where
+  pub last : Option Cell
+  pub supply : ℕ
 
--- an amount above 0 with which the supply stays below 2^63
-abbrev pub is_room : ℕ → ℕ → Bool
-is_room total n = nat_lt 0 n && nat_lt (total + n) (2 ^ 63)
-
--- a value that may stand in a cell behind cells of so much: an amount of an implicit account
-abbrev pub fits : List ℕ → ℕ → Val → Bool
-fits a total v = is_implicit a && is_room total (amount_of v)
-
--- the three kinds of cells, of which balances are built
-abbrev pub kind : Reader ℕ
-kind = built (λ k. k == 0) (checked (λ k. nat_le k 2) (number w8))
-
--- the address of a balance, behind its kind
-abbrev pub account : Reader (List ℕ)
-account = made (λ p. p.1) (both kind address)
-
--- the address is above the last one, if there is one
-abbrev pub is_above : Option (List ℕ) → List ℕ → Bool
-is_above None a = true
-is_above (Some last) a = is_lt (slice_cmp nat_cmp last a)
-
--- a balance that stands above the last one, told at its first byte
-abbrev pub name : Option (List ℕ) → Reader (List ℕ)
-name last = checked (is_above last) account
-
--- the value of a cell, which is read whole before it is judged
-abbrev pub amount : List ℕ → ℕ → Reader ℕ
-amount a total = made amount_of (checked (fits a total) (value ANY_VALUE 128))
-
--- what stands before a cell: the address of the last one and the supply so far
-abbrev pub Before : Type 0
-Before = Option (List ℕ) × ℕ
+-- nothing
+abbrev pub start : Before
+start = record { last = None; supply = 0 }
 
 -- what stands before the next cell
-abbrev pub next : Before → Holding → Before
-next before h = (Some h.address, before.1 + h.amount)
+abbrev pub next : Before → Cell × Val → Before
+next before e = record { last = Some e.0; supply = before.supply + money_of e }
 
--- a cell and its value, by what stands before
-abbrev pub holding : Before → Reader Holding
-holding before = with (name before.0) (λ a. made (λ n. record { address = a; amount = n }) (amount a before.1))
+-- the value fits the cell, and with it the supply stays below 2^63
+abbrev pub may_stand : Contracts → ℕ → Cell → Val → Bool
+may_stand book supply c v = fits book c v && nat_lt (supply + money_of (c, v)) (2 ^ 63)
 
--- so many cells
-abbrev pub cells : ℕ → Reader (List Holding)
-cells = chained holding next (None, 0)
+-- the value of a cell, which is read whole before it is judged at its tag
+abbrev pub value_in : Contracts → ℕ → Cell → Reader (Cell × Val)
+value_in book supply c = made (λ v. (c, v)) (checked (may_stand book supply c) (value ANY_VALUE 128))
 
--- the number of contracts: at most 1,024, of which one or more aren't built
-abbrev pub contracts : Reader ℕ
-contracts = built (λ n. n == 0) (checked (λ n. nat_le n 1024) (number w32))
+-- a cell above the last one, told at its first byte, and its value
+abbrev pub held : Contracts → Before → Reader (Cell × Val)
+held book before = with (checked (is_above before.last) cell) (value_in book before.supply)
 
--- the contracts, and then the cells with their number before them
-abbrev pub book : Reader (List Holding)
-book = made (λ p. p.1) (both contracts (with (number w32) cells))
+-- the number of cells, then so many
+abbrev pub rows : Contracts → Reader (List (Cell × Val))
+rows book = with (number w32) (chained (held book) next start)
 
--- all of the bytes
+-- the values by their cells; a missing storage is told at the number
+abbrev pub cells : Contracts → Reader Contents
+cells book = checked (has_storages book) (made from_sorted (rows book))
+
+-- ---- the file
+
+-- the state of this head and this book, with the cells that are read
+abbrev pub with_cells : ℕ → ℕ → Contracts → Reader Ledger
+with_cells level now book = made (λ cells. record { level = level; now = now; book = book; cells = cells }) (cells book)
+
+-- all of the bytes: the magic, the level, `now`, the contracts and the cells
 unfoldable pub ledger : Reader Ledger
-ledger =
-    whole (made (λ p. record { level = p.0; now = p.1.0; balances = from_sorted (map pair p.1.1) })
-    (behind magic (both (number w32) (both (number w64) book))))
+ledger = whole (behind magic (with (number w32) (λ level. with (number w64) (λ now. with book (λ contracts. with_cells level now contracts)))))
 
--- the ledger, or the place of the fault or of what isn't built
+-- the state, or the place of the fault
 abbrev pub ledger_of : List ℕ → Result Ledger Stop
 ledger_of bytes = alone (length bytes) (ledger bytes)

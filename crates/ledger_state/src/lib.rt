@@ -1,33 +1,37 @@
-//! Ledgers: a level, a `now` and what each account has, and the file that holds one.
+//! States: a head, a book and the cells of its contracts and accounts; and the file that holds one.
 //!
-//! A `State` is a list of holdings, strictly ascending by address, that contracts see as a finite
-//! map from addresses to amounts (`specs/Ledger.antt`). An account that isn't there has 0; the
-//! amounts together stay below 2^63. Nothing changes a state in place: `with_balances` makes the
-//! next one in one pass over the holdings and the changes.
+//! A state is what blocks are run on. Its type keeps that each value fits its cell by the book, that
+//! each contract has its storage, and that the supply is below 2^63.
 //!
-//! - `laws`: what is true of ledgers and their files.
-//! - `state`: `State` and its calls. Begin there. `holding`: what one account has.
-//! - `merge`: where an address stands, and holdings with changes put in.
-//! - `writer`, `reader`: the file of a ledger (docs/FORMATS.md, "State file").
-//!
-//! Contracts aren't built yet, so a ledger has balances of implicit accounts alone. A file that has
-//! a contract, or a cell of another kind, is refused as `NotYet` at that place, where all before it
-//! keeps the rules.
+//! - `laws`: a file is read exactly from its spelling; why cells make no state.
+//! - `state`: `State` and its calls. Begin there. `building`: a state of given cells.
+//! - `storages`: the contracts without a storage.
+//! - `script`: the text of a script in a file, which is exactly the printed text of one that may run.
+//! - `writer`, `reader`: the file of a state (docs/FORMATS.md, "State file"). `contracts` and `rows`
+//!   read its two lists.
+//! - `fault`: why cells make no state.
 #![tactic(auto)]
 
-mod holding;
+mod building;
+mod contracts;
+mod fault;
 mod laws;
-mod merge;
 mod reader;
+mod rows;
+mod script;
 mod state;
+mod storages;
 #[cfg(test)]
 mod tests;
 mod writer;
 
-pub use byte_fields::At;
-pub use cell_names::{FormatFault, Head, NoMemory};
-pub use holding::Holding;
-pub use laws::ledgers_have_one_spelling;
+pub use byte_fields::{At, FieldFault};
+pub use cell_names::{Head, NoMemory};
+pub use fault::BuildFault;
+pub use laws::{
+    a_state_is_built_or_the_first_reason_is_told, a_text_is_a_script_where_it_is_printed,
+    states_have_one_spelling,
+};
 pub use reader::read_state;
 pub use state::State;
 pub use writer::write_state;

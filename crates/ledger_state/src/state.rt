@@ -1,46 +1,85 @@
-//! A ledger in memory, and the next one made from it.
+//! A state in memory.
 
-ghost use Rattle.std.specs.Prelude.{◌≡◌, ◌<◌, ◌^◌, ◌↔◌, length, All, IfOk, IsTrue, map};
-ghost use Rattle.std.specs.FinMap.{entries, len};
-ghost use Rattle.cell_names.specs.Accounts.{IsImplicit};
-ghost use Rattle.ledger_state.specs.Ledger.{AreBalances, Ascends, balance, changed, pair, supply};
-ghost use Rattle.ledger_state.specs.Holdings.{AreHoldings, ledger_from};
+ghost use Rattle.std.specs.Prelude.{◌≡◌, ◌↔◌, IfOk, IsTrue, None};
+ghost use Rattle.code_book.specs.Ownership.{IsBookOf};
+ghost use Rattle.ledger_cells.specs.LedgerCells.{seen_of};
+ghost use Rattle.ledger_state.specs.Ledger.{IsLedger};
+ghost use Rattle.ledger_state.specs.StateCells.{AreCellsOf, ledger_from};
+ghost use Rattle.ledger_state.specs.Storages.{least_bare};
 
-use crate::holding::Holding;
-use crate::merge::{amount_in, merged, place_in, same_holdings};
 use cell_names::{Head, NoMemory};
+use code_book::Book;
+use ledger_cells::Cells;
 use std::alloc::Global;
 use std::marker::Model;
-use value_core::Address;
 
-/// A ledger: its holdings ascend by address, and together stay below 2^63.
+/// A head, a book, and cells that were made for the book, with nothing in flight.
 #[derive(Drop)]
 pub struct State {
     head: Head,
-    holdings: Vec<Holding>,
+    book: Book,
+    cells: Cells,
 }
 
 impl Model for State {
-    ghost use Rattle.ledger_state.specs.Ledger.{Ledger, ledger_code};
+    ghost use Rattle.std.specs.Prelude.{ℕ, refl};
+    ghost use Rattle.std.specs.Coded.{code_by, coded×, coded_ℕ, coded_list};
+    ghost use Rattle.std.specs.FinMap as finmap;
+    ghost use Rattle.michelson_code.specs.contracts.script.Script as script;
+    ghost use Rattle.cell_names.specs.contracts.cell.Cell as cell;
+    ghost use Rattle.value_core.specs.contracts.val.Val as val;
+    ghost use Rattle.cell_names.specs.Contents.{Contents};
+    ghost use Rattle.code_book.specs.Books.{Contracts};
+    ghost use Rattle.ledger_state.specs.Ledger.{Ledger};
+    ghost use Rattle.ledger_state.specs.StateCells.{ledger_from, IsState};
 
     ghost Value = { Ledger };
 
-    ghost coded = { ledger_code };
+    ghost coded = { code_by ((ℕ × ℕ) × (Contracts × Contents))
+        (coded× (coded× coded_ℕ coded_ℕ)
+        (coded× (finmap.code (coded_list coded_ℕ) script.the_row.coded)
+            (finmap.code cell.the_row.coded val.the_row.coded)))
+        (λ s. ((s.level, s.now), (s.book, s.cells)))
+        (λ p. record { level = p.0.0; now = p.0.1; book = p.1.0; cells = p.1.1 }) (λ _. refl) };
 
-    ghost use Rattle.ledger_state.specs.Holdings.{AreHoldings, ledger_from};
+    ghost view = { λ s. ledger_from s.head.level s.head.now s.book s.cells };
 
-    ghost view = { λ s. ledger_from s.head.level s.head.now s.holdings.items };
-
-    ghost invariant = { λ s. AreHoldings s.holdings.items };
+    ghost invariant = { λ s. IsState s.head.level s.head.now s.book s.cells };
 }
 
 impl State {
-    /// The state of these holdings.
-    pub(crate) fn of(head: Head, holdings: Vec<Holding>) -> State
-        requires { AreHoldings holdings.items }
-        ensures { result ≡ ledger_from head.level head.now holdings.items }
+    /// The state of these, where each contract has its storage.
+    pub(crate) fn of(head: Head, book: Book, cells: Cells) -> State
+        requires flight { cells.flight ≡ 0 }
+        requires made_for { cells.book ≡ book }
+        requires housed { least_bare book cells.cells ≡ None }
+        ensures { result ≡ ledger_from head.level head.now book cells }
     {
-        State { head, holdings }
+        // What all cells keep is told by their number.
+        let _count = cells.len();
+        State { head, book, cells }
+    }
+
+    /// The state of this head, this book and cells of its own, with nothing in flight.
+    pub fn unite(head: Head, book: Book, cells: Cells) -> State
+        requires flight { cells.flight ≡ 0 }
+        requires made_for { cells.book ≡ book }
+        requires owned { IsBookOf book (seen_of cells) }
+        ensures { result ≡ ledger_from head.level head.now book cells }
+    {
+        State::of(head, book, cells)
+    }
+
+    /// The head, the book and the cells.
+    pub fn split(self) -> (Head, Book, Cells)
+        ensures level { result.0.level ≡ self.level }
+        ensures now { result.0.now ≡ self.now }
+        ensures book { result.1 ≡ self.book }
+        ensures cells { AreCellsOf self result.2 }
+        ensures owned { IsBookOf result.1 (seen_of result.2) }
+    {
+        let State { head, book, cells } = self;
+        (head, book, cells)
     }
 
     /// The level and `now`.
@@ -51,58 +90,36 @@ impl State {
         self.head
     }
 
+    /// The contracts.
+    pub fn book(&self) -> &Book
+        ensures { result.now ≡ self.now.book }
+    {
+        &self.book
+    }
+
+    /// What stands in cells.
+    pub fn cells(&self) -> &Cells
+        ensures cells { AreCellsOf self.now result.now }
+        ensures lawful { IsLedger self.now }
+        ensures owned { IsBookOf self.now.book (seen_of result.now) }
+    {
+        &self.cells
+    }
+
     /// An equal state.
     pub fn copy(&self, alloc: Global) -> Result<State, NoMemory>
         ensures { IfOk result (λ s. s ≡ self.now) }
     {
-        let holdings = self.holdings.clone()?;
+        let book = self.book.copy(alloc)?;
+        let cells = self.cells.copy(alloc)?;
         let head = self.head;
-        Ok(State { head, holdings })
+        Ok(State { head, book, cells })
     }
 
-    /// Whether two states are equal.
+    /// Whether both are one state.
     pub fn same(&self, other: &State) -> bool
         ensures { IsTrue result ↔ (self.now ≡ other.now) }
     {
-        self.head == other.head && same_holdings(&self.holdings, &other.holdings)
-    }
-
-    /// What each account has, ascending by address.
-    pub fn holdings(&self) -> &[Holding]
-        ensures pairs { map pair result.now ≡ entries self.now.balances }
-        ensures count { length result.now ≡ len self.now.balances }
-        ensures ascend { Ascends result.now }
-        ensures lawful { AreBalances self.now.balances }
-    {
-        &self.holdings
-    }
-
-    /// What the account of this address has.
-    pub fn balance(&self, address: &Address) -> u64
-        ensures { result ≡ balance self.now.balances address.now }
-    {
-        let holdings = self.holdings.as_slice();
-        let (_, back) = holdings.split_at(place_in(holdings, address));
-        amount_in(back, address)
-    }
-
-    /// The state with this head where each account of `changes` has the amount that stands there.
-    pub fn with_balances(
-        &self,
-        alloc: Global,
-        head: Head,
-        changes: &[Holding],
-    ) -> Result<State, NoMemory>
-        requires ascend { Ascends changes.now }
-        requires accounts { All (λ c. IsImplicit c.address) changes.now }
-        requires within { supply (changed self.now.balances changes.now) < 2 ^ 63 }
-        ensures { IfOk result (λ s. s ≡ record {
-          level = head.level;
-          now = head.now;
-          balances = changed self.now.balances changes.now;
-        }) }
-    {
-        let holdings = merged(alloc, &self.holdings, changes)?;
-        Ok(State { head, holdings })
+        self.head == other.head && self.cells.same(&other.cells)
     }
 }

@@ -8,9 +8,9 @@ use Rattle.std.specs.FinMap.{get, insert, remove, entries, entries_sorted, entri
 use Rattle.std.specs.FinMap.Entries.{where_key}
 use Rattle.std.proofs.lemmas.List.Elements.{All-from_recursion}
 use Rattle.cell_names.specs.Accounts.{IsImplicit}
-use Rattle.ledger_state.specs.declared.holding.Holding.{Holding}
-use Rattle.ledger_state.specs.Ledger.{Balances, AreBalances, balance, supply, with_balance}
-use Rattle.ledger_state.proofs.Changing.{IsFunded, entries_funded, entries-changed, AreBalances-changed}
+use Rattle.plain_ledger.specs.declared.holding.Holding.{Holding}
+use Rattle.plain_ledger.specs.Ledger.{Balances, AreBalances, balance, supply, with_balance}
+use Rattle.plain_ledger.proofs.Changing.{IsFunded, entries_funded, entries-changed, AreBalances-changed}
 use Rattle.plain_transfers.proofs.Entries.{total, total_is, total-put, total-where_key, all-find, is_equal}
 
 abbrev pub same_key : List ℕ → List ℕ → Bool

@@ -16,8 +16,8 @@ use Rattle.std.specs.FinMap.Entries.{below_all}
 use Rattle.std.proofs.lemmas.Bool.{eqb-true}
 use Rattle.std.proofs.lemmas.Map.Keys.{sorted_head, sorted_tail}
 use Rattle.value_core.proofs.Bools.{left, right, true_of}
-use Rattle.ledger_state.specs.Ledger.{BalanceEntry, Balances, balance, with_balance, changed, pair, Ascends}
-use Rattle.ledger_state.specs.declared.holding.Holding.{Holding}
+use Rattle.plain_ledger.specs.Ledger.{BalanceEntry, Balances, balance, with_balance, changed, pair, Ascends}
+use Rattle.plain_ledger.specs.declared.holding.Holding.{Holding}
 use Rattle.plain_transfers.specs.Changes.{over, holding_of}
 use Rattle.plain_transfers.proofs.Entries.{below_tied, is_equal}
 use Rattle.plain_transfers.proofs.Balances.{same_key, keys_differ, held, get-with_balance}

@@ -1,7 +1,7 @@
 -- A debit and a credit of the same amount: the supply, and what balances keep.
 use Rattle.std.proofs.Common.{◌≡◌, ℕ, ◌+◌, ◌-◌, ◌<◌, ◌≤◌, ◌^◌, List, ap, subst, sym, ◌∙◌, arith}
 use Rattle.cell_names.specs.Accounts.{IsImplicit}
-use Rattle.ledger_state.specs.Ledger.{BalanceEntry, Balances, AreBalances, balance, supply, with_balance}
+use Rattle.plain_ledger.specs.Ledger.{BalanceEntry, Balances, AreBalances, balance, supply, with_balance}
 use Rattle.plain_transfers.specs.Changes.{over}
 use Rattle.plain_transfers.specs.Serial.{credited, debited}
 use Rattle.plain_transfers.proofs.Balances.{supply-with_balance, balance-le-supply, AreBalances-with_balance, with_balance-same}

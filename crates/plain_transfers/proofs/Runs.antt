@@ -3,7 +3,7 @@ use Rattle.std.proofs.Common.{◌≡◌, ◌≤◌, ◌==◌, true, false, List,
 use Rattle.std.specs.Prelude.{nat_lt, if◌then◌else◌}
 use Rattle.std.specs.List.{AllByRecursion}
 use Rattle.std.proofs.lemmas.Bool.{ltb-false}
-use Rattle.ledger_state.specs.Ledger.{Balances, AreBalances, balance, supply}
+use Rattle.plain_ledger.specs.Ledger.{Balances, AreBalances, balance, supply}
 use Rattle.block_codec.specs.declared.transfer.Transfer.{Transfer}
 use Rattle.plain_transfers.specs.Serial.{serial}
 use Rattle.plain_transfers.specs.Run.{IsPlain, run_on}

@@ -4,8 +4,8 @@ use Rattle.std.specs.Ordering.{nat_cmp}
 use Rattle.std.specs.Cmp.Lexicographic.{slice_cmp}
 use Rattle.std.specs.List.Sorted.{IsStrictlySortedBy}
 use Rattle.cell_names.specs.Accounts.{IsImplicit}
-use Rattle.ledger_state.specs.declared.holding.Holding.{Holding}
-use Rattle.ledger_state.specs.Ledger.{BalanceEntry, Balances, with_balance, AreBalances}
+use Rattle.plain_ledger.specs.declared.holding.Holding.{Holding}
+use Rattle.plain_ledger.specs.Ledger.{BalanceEntry, Balances, with_balance, AreBalances}
 
 -- the balances with these written over them
 abbrev pub over : Balances → List BalanceEntry → Balances

@@ -5,7 +5,7 @@ use Rattle.cell_names.specs.declared.cell.Cell.TheVariants.{Balance}
 use Rattle.cell_names.specs.declared.mode.Mode.{Mode}
 use Rattle.cell_names.specs.declared.mode.Mode.TheVariants.{Credit, Own}
 use Rattle.cell_names.specs.Footprints.{touched}
-use Rattle.ledger_state.specs.Ledger.{Balances, balance, with_balance}
+use Rattle.plain_ledger.specs.Ledger.{Balances, balance, with_balance}
 use Rattle.block_codec.specs.declared.transfer.Receipt.{Receipt}
 use Rattle.block_codec.specs.declared.transfer.Transfer.{Transfer}
 

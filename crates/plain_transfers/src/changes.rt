@@ -4,11 +4,11 @@ ghost use Rattle.std.specs.Ordering.{nat_cmp};
 ghost use Rattle.std.specs.Cmp.Lexicographic.{slice_cmp};
 ghost use Rattle.std.specs.BTreeMap.{IsOrdered, get, keys};
 ghost use Rattle.cell_names.specs.Accounts.{IsImplicit};
-ghost use Rattle.ledger_state.specs.Ledger.{Balances, balance, supply, with_balance};
+ghost use Rattle.plain_ledger.specs.Ledger.{Balances, balance, supply, with_balance};
 ghost use Rattle.plain_transfers.specs.Changes.{AreChanges, holding_of, over};
 ghost use Rattle.plain_transfers.specs.Serial.{credited, debited};
 
-use ledger_state::{Holding, NoMemory, State};
+use plain_ledger::{Holding, NoMemory, State};
 use std::alloc::Global;
 use std::collections::BTreeMap;
 use value_core::Address;

@@ -1,13 +1,13 @@
 //! A state's balances, with what changed kept apart.
 ghost use Rattle.std.specs.Prelude.{◌≡◌, IfOk, OnOk, OnErr};
 ghost use Rattle.cell_names.specs.Accounts.{IsImplicit};
-ghost use Rattle.ledger_state.specs.Ledger.{AreBalances, balance, supply};
+ghost use Rattle.plain_ledger.specs.Ledger.{AreBalances, balance, supply};
 ghost use Rattle.plain_transfers.specs.Serial.{serial};
 
 use crate::changes::{Changes, balance_in, holdings_of, pay};
 use block_codec::{Receipt, Transfer};
 use cell_names::{Cell, Footprint, Mode};
-use ledger_state::{Head, NoMemory, State};
+use plain_ledger::{Head, NoMemory, State};
 use std::alloc::Global;
 use std::collections::BTreeMap;
 use std::marker::Model;
@@ -31,7 +31,7 @@ pub struct Overlay<'a> {
 }
 
 impl<'a> Model for Overlay<'a> {
-    ghost use Rattle.ledger_state.specs.Ledger.{Balances};
+    ghost use Rattle.plain_ledger.specs.Ledger.{Balances};
     ghost use Rattle.std.specs.FinMap as finmap;
     ghost use Rattle.std.specs.Coded.{coded_ℕ, coded_list};
 

@@ -1,7 +1,7 @@
 //! What transfers keep.
 ghost use Rattle.std.specs.Prelude.{◌≡◌, List};
 ghost use Rattle.std.specs.List.{AllByRecursion};
-ghost use Rattle.ledger_state.specs.Ledger.{AreBalances, Ledger, supply};
+ghost use Rattle.plain_ledger.specs.Ledger.{AreBalances, Ledger, supply};
 ghost use Rattle.block_codec.specs.declared.transfer.Transfer.{Transfer};
 ghost use Rattle.plain_transfers.specs.Run.{IsPlain, run_all};
 

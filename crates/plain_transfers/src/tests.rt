@@ -6,7 +6,7 @@ ghost use Rattle.cell_names.specs.Accounts.{IsImplicit};
 use crate::{Overlay, supply_is_kept};
 use block_codec::Transfer;
 use cell_names::{Cell, Footprint, Mode};
-use ledger_state::{Head, State, read_state};
+use plain_ledger::{Head, State, read_state};
 use std::alloc::Global;
 use std::test::Fail;
 use value_core::Address;

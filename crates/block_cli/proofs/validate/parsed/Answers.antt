@@ -1,6 +1,6 @@
 use Rattle.std.proofs.Common.{◌≡◌, ℕ, List, subst}
 use Rattle.std.specs.Prelude.{IfOk}
-use Rattle.ledger_state.specs.Spelling.{IsLedger, spelling}
+use Rattle.plain_ledger.specs.Spelling.{IsLedger, spelling}
 use Rattle.block_cli.proofs.Sizes.{few_read}
 use Rattle.block_cli.proofs.validate.parsed.Goals as goal
 

@@ -1,7 +1,7 @@
 use Rattle.std.proofs.Common.{Result, sym, subst}
 use Rattle.std.specs.Prelude.{IfOk}
 use Rattle.byte_fields.specs.Stops.{Stop}
-use Rattle.ledger_state.specs.Ledger.{Ledger}
+use Rattle.plain_ledger.specs.Ledger.{Ledger}
 use Rattle.block_cli.specs.Validating.{ValidatesOn}
 use Rattle.block_cli.specs.Inside.{answer_in}
 use Rattle.block_cli.proofs.validate.validate.Goals as goal

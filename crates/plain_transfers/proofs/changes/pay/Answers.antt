@@ -1,7 +1,7 @@
 -- Each of the three writes, and what the balances are behind it.
 use Rattle.std.proofs.Common.{arith, ◌≡◌, sym, subst, ap, ◌∙◌}
 use Rattle.std.specs.Prelude.{Result, Ok, Err, OnErr}
-use Rattle.ledger_state.specs.Ledger.{AreBalances, balance, supply}
+use Rattle.plain_ledger.specs.Ledger.{AreBalances, balance, supply}
 use Rattle.plain_transfers.specs.Changes.{over}
 use Rattle.plain_transfers.specs.Serial.{debited}
 use Rattle.plain_transfers.proofs.Paying.{over-place, over-credit, supply-paid, credit_fits, AreBalances-paid, has_enough, after_debit}

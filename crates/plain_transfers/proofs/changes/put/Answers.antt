@@ -5,7 +5,7 @@ use Rattle.std.specs.Cmp.Lexicographic.{slice_cmp}
 use Rattle.std.specs.Prelude.{All, map, IsSome, Option, Some, Bool, true, false, cond}
 use Rattle.std.proofs.lemmas.Map.Views.{All-keys-insert_entry}
 use Rattle.cell_names.specs.Accounts.{IsImplicit}
-use Rattle.ledger_state.specs.Ledger.{BalanceEntry}
+use Rattle.plain_ledger.specs.Ledger.{BalanceEntry}
 use Rattle.plain_transfers.proofs.Over.{over-written}
 use Rattle.plain_transfers.proofs.changes.put.Goals as goal
 

@@ -2,8 +2,8 @@
 use Rattle.std.proofs.Common.{◌≡◌, ◌<◌, ◌^◌, List, ap, sym, subst, ◌∙◌}
 use Rattle.std.specs.Prelude.{All, IfOk}
 use Rattle.cell_names.specs.Accounts.{IsImplicit}
-use Rattle.ledger_state.specs.Ledger.{Ascends, Balances, changed, supply}
-use Rattle.ledger_state.specs.declared.holding.Holding.{Holding}
+use Rattle.plain_ledger.specs.Ledger.{Ascends, Balances, changed, supply}
+use Rattle.plain_ledger.specs.declared.holding.Holding.{Holding}
 use Rattle.plain_transfers.proofs.Over.{Ascends-holdings, All-holdings, over-holdings}
 use Rattle.plain_transfers.proofs.overlay.Overlay.finish.Goals as goal
 

@@ -1,0 +1,5 @@
+pub mod Ascending
+pub mod Changing
+pub mod HoldingLemmas
+pub mod FieldLaws
+pub mod FileLaws
