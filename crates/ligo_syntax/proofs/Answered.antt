@@ -14,9 +14,14 @@ use Rattle.ligo_syntax.specs.Classes.{decl_firsts}
 use Rattle.ligo_syntax.specs.Rules.{Repeated}
 use Rattle.ligo_syntax.specs.Readers.{Read}
 use Rattle.ligo_syntax.specs.Depth.{decl_depth, deepest}
-use Rattle.ligo_syntax.specs.Trees.{type_name, leaf_pattern, leaf_expr, cons_arm}
+use Rattle.ligo_syntax.specs.TypeTrees.{type_name, leaf_pattern}
+use Rattle.ligo_syntax.specs.AtomTrees.{leaf_expr}
+use Rattle.ligo_syntax.specs.ExprTrees.{cons_arm}
 use Rattle.ligo_syntax.specs.ProgramTrees.{program_of}
-use Rattle.ligo_syntax.specs.Grammar.{Whole, Atom, DeclRule, IsType, IsPattern, PatternRule, ArmPatternRule, IsExpr, IsLooseText}
+use Rattle.ligo_syntax.specs.TypeGrammar.{IsType, IsPattern, PatternRule, ArmPatternRule}
+use Rattle.ligo_syntax.specs.AtomGrammar.{Whole, Atom}
+use Rattle.ligo_syntax.specs.ExprGrammar.{IsExpr}
+use Rattle.ligo_syntax.specs.Grammar.{DeclRule, IsLooseText}
 use Rattle.ligo_syntax.specs.Reading.{decls_at}
 use Rattle.ligo_syntax.specs.Faults.{Begins, GoesOn, IsStuck, CanStand}
 use Rattle.ligo_syntax.specs.Verdict.{all_of}

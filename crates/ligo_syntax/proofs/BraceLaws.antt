@@ -8,12 +8,17 @@ use Rattle.ligo_syntax.specs.declared.expr.ExprForm.{ExprForm}
 use Rattle.ligo_syntax.specs.declared.expr.ValueField.{ValueField}
 use Rattle.ligo_syntax.specs.Kinds.{Tokens, Kinds}
 use Rattle.ligo_syntax.specs.Classes.{name_kinds, atom_firsts, expr_firsts}
-use Rattle.ligo_syntax.specs.Rules.{Both, Made, Either, Onward, Key, Parted, Listed}
-use Rattle.ligo_syntax.specs.Readers.{Read, Reader, then_do, key}
+use Rattle.ligo_syntax.specs.Rules.{Both, Made, Either, Onward, Key, Parted, Listed, greedy}
+use Rattle.ligo_syntax.specs.Readers.{Read, Reader, then_do}
+use Rattle.ligo_syntax.specs.Phrases.{key}
 use Rattle.ligo_syntax.specs.Depth.{expr_depth, field_depth, deepest}
-use Rattle.ligo_syntax.specs.Trees.{leaf_expr, word_of, field_of, record_inside, with_inside}
-use Rattle.ligo_syntax.specs.Grammar.{Form, Whole, Atom, FieldRule, PatternRule, IsType, IsPattern, IsExpr}
-use Rattle.ligo_syntax.specs.Reading.{form_at, arm_at, firsts_of, field_rule, record_rest, with_rest, brace_rest, brace_inside, name_alone}
+use Rattle.ligo_syntax.specs.Said.{word_of}
+use Rattle.ligo_syntax.specs.AtomTrees.{leaf_expr, field_of, record_inside, with_inside}
+use Rattle.ligo_syntax.specs.TypeGrammar.{PatternRule, IsType, IsPattern}
+use Rattle.ligo_syntax.specs.AtomGrammar.{Form, Whole, Atom, FieldRule}
+use Rattle.ligo_syntax.specs.ExprGrammar.{IsExpr}
+use Rattle.ligo_syntax.specs.AtomReading.{field_rule, record_rest, with_rest, brace_rest, brace_inside, name_alone}
+use Rattle.ligo_syntax.specs.ExprReading.{form_at, arm_at, firsts_of}
 use Rattle.ligo_syntax.proofs.Sets.{apart}
 use Rattle.ligo_syntax.proofs.RuleLaws.{Standing, Rules, Pair, Law, Least, token_law, made_law, made_least}
 use Rattle.ligo_syntax.proofs.Sequences.{deeper, onward_pair, onward_law_by, both_law, both_least}
@@ -36,7 +41,7 @@ expr_pair d f i = form_at (limits d (beyond d) i) f
 
 -- fields, with values further inside
 abbrev pub Fields : Rules ValueField
-Fields n = FieldRule (under IsType n) (under IsPattern n) (PatternRule (under IsPattern n)) (λ g. Inside g n)
+Fields n = FieldRule greedy (under IsType n) (under IsPattern n) (PatternRule (under IsPattern n)) (λ g. Inside g n)
 
 abbrev WithRest : Expr → Rules (ℕ × ExprForm)
 WithRest first n = Made (λ (p : ValueField × List ValueField). with_inside (first, p)) (Key kind.With (Parted kind.Semicolon (Fields n)))

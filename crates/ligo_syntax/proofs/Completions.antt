@@ -6,7 +6,8 @@ use Rattle.ligo_syntax.specs.declared.fault.Expected.{Expected}
 use Rattle.ligo_syntax.specs.declared.fault.Expected.TheVariants as expected
 use Rattle.ligo_syntax.specs.Kinds.{Tokens, Kinds, sort, next, has, Ends}
 use Rattle.ligo_syntax.specs.Rules.{Rule, Made, Both, Either, Chain}
-use Rattle.ligo_syntax.specs.Readers.{Reader, one_of, both, made, either, before, chain, loop, repeated, optional, key, from}
+use Rattle.ligo_syntax.specs.Readers.{Reader, one_of, both, made, either, before, chain, loop, repeated}
+use Rattle.ligo_syntax.specs.Phrases.{optional, key, from}
 use Rattle.ligo_syntax.proofs.Loops.{loop_is, loop_stops}
 use Rattle.ligo_syntax.proofs.Words.{apart_either}
 use Rattle.ligo_syntax.proofs.Sets.{apart, within, when, by_case, apart_has, within_has, within_holds, ends_first, ends_second, has_append}

@@ -15,11 +15,16 @@ use Rattle.ligo_syntax.specs.declared.program.Decl.{Decl}
 use Rattle.ligo_syntax.specs.Kinds.{Tokens, Kinds}
 use Rattle.ligo_syntax.specs.Classes.{name_kinds, attribute_kinds, type_firsts, pattern_firsts, expr_firsts, variant_firsts, definition_firsts, decl_firsts}
 use Rattle.ligo_syntax.specs.Rules.{Repeated}
-use Rattle.ligo_syntax.specs.Readers.{both, made, key, closed}
+use Rattle.ligo_syntax.specs.Readers.{both, made}
+use Rattle.ligo_syntax.specs.Phrases.{key, closed}
 use Rattle.ligo_syntax.specs.Depth.{type_depth, pattern_depth, expr_depth, definition_depth, param_depth, decl_depth, if_there, deepest}
 use Rattle.ligo_syntax.specs.ProgramTrees.{type_field, type_case, record_type, variant_type, param_of, type_decl, value_decl}
-use Rattle.ligo_syntax.specs.Grammar.{Whole, TypeFieldRule, TypeCaseRule, DefinitionRule, ParamRule, TypeDeclRule, ValueDeclRule, DeclRule, IsType, IsPattern, IsExpr}
-use Rattle.ligo_syntax.specs.Reading.{token, Several, Tuple, read_type, read_pattern, type_field_rule, type_case_rule, record_type_rule, variant_type_rule, definition_at, param_at, type_decl_rule, value_decl_rule, decl_at, decls_at}
+use Rattle.ligo_syntax.specs.TypeGrammar.{IsType, IsPattern}
+use Rattle.ligo_syntax.specs.AtomGrammar.{Whole}
+use Rattle.ligo_syntax.specs.ExprGrammar.{IsExpr}
+use Rattle.ligo_syntax.specs.Grammar.{TypeFieldRule, TypeCaseRule, DefinitionRule, ParamRule, TypeDeclRule, ValueDeclRule, DeclRule}
+use Rattle.ligo_syntax.specs.TypeReading.{token, Several, Tuple, read_type, read_pattern}
+use Rattle.ligo_syntax.specs.Reading.{type_field_rule, type_case_rule, record_type_rule, variant_type_rule, definition_at, param_at, type_decl_rule, value_decl_rule, decl_at, decls_at}
 use Rattle.ligo_syntax.proofs.RuleLaws.{Standing, Pair, Law, Least, flat, token_law, token_least, made_least}
 use Rattle.ligo_syntax.proofs.Sequences.{deeper, both_law, both_least}
 use Rattle.ligo_syntax.proofs.Choices.{either_law, either_least, either_first}

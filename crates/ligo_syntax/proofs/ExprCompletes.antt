@@ -8,11 +8,17 @@ use Rattle.ligo_syntax.specs.declared.expr.ValueField.{ValueField}
 use Rattle.ligo_syntax.specs.declared.expr.Arm.{Arm}
 use Rattle.ligo_syntax.specs.Kinds.{Tokens, Kinds, Ends}
 use Rattle.ligo_syntax.specs.Classes.{name_kinds, leaf_kinds, link_kinds, product_kinds, sum_kinds, comparison_kinds, atom_firsts, op_firsts, condition_firsts, expr_firsts, arm_firsts}
-use Rattle.ligo_syntax.specs.Readers.{Reader, then_do, both, made, optional, key, closed, listed}
+use Rattle.ligo_syntax.specs.Readers.{Reader, then_do, both, made}
+use Rattle.ligo_syntax.specs.Phrases.{optional, key, closed, listed}
 use Rattle.ligo_syntax.specs.Depth.{expr_depth}
-use Rattle.ligo_syntax.specs.Trees.{leaf_expr, dotted, applied, negated, binary, maybe_binary, tuple_expr, name_of, record_inside, field_of, paren_expr, list_expr, brace_expr, upper_expr, if_expr, match_expr, let_expr, arm_of}
-use Rattle.ligo_syntax.specs.Grammar.{Form, Whole, Part, Condition, Disjunction, Conjunction, Comparison, Joined, Consed, Sum, Product, Unary, Application, Atom}
-use Rattle.ligo_syntax.specs.Reading.{token, Several, paren_rule, square_rule, field_rule, record_rest, brace_rest, brace_inside, brace_rule, upper_rule, atom_rule, application_rule, unary_rule, product_rule, sum_rule, consed_rule, joined_rule, comparison_rule, conjunction_rule, disjunction_rule, if_rule, condition_rule, tuple_rule, match_rule, let_rule, firsts_of, name_alone, form_at, arm_at, read_type, upper_link_at}
+use Rattle.ligo_syntax.specs.Said.{name_of}
+use Rattle.ligo_syntax.specs.AtomTrees.{leaf_expr, dotted, record_inside, field_of, paren_expr, list_expr, brace_expr, upper_expr}
+use Rattle.ligo_syntax.specs.ExprTrees.{applied, negated, binary, maybe_binary, tuple_expr, if_expr, match_expr, let_expr, arm_of}
+use Rattle.ligo_syntax.specs.AtomGrammar.{Form, Whole, Part, Condition, Disjunction, Conjunction, Comparison, Joined, Consed, Sum, Product, Unary, Application, Atom}
+use Rattle.ligo_syntax.specs.TypeReading.{token, Several, read_type}
+use Rattle.ligo_syntax.specs.AtomReading.{paren_rule, square_rule, field_rule, record_rest, brace_rest, brace_inside, brace_rule, upper_rule, atom_rule, application_rule, name_alone, upper_link_at}
+use Rattle.ligo_syntax.specs.OperatorReading.{unary_rule, product_rule, sum_rule, consed_rule, joined_rule, comparison_rule, conjunction_rule, disjunction_rule}
+use Rattle.ligo_syntax.specs.ExprReading.{if_rule, condition_rule, tuple_rule, match_rule, let_rule, firsts_of, form_at, arm_at}
 use Rattle.ligo_syntax.proofs.RuleLaws.{Least, token_least, made_least}
 use Rattle.ligo_syntax.proofs.Sequences.{both_least}
 use Rattle.ligo_syntax.proofs.Choices.{either_first}

@@ -1,6 +1,7 @@
 -- How deep expressions are, by what they are made of.
 use Rattle.std.proofs.Common.{◌≡◌, ℕ, zero, suc, max, ◌≤◌, List, [], ◌∷◌, arith, Option, Some, None}
 use Rattle.ligo_tokens.specs.declared.token.Token.{Token}
+use Rattle.ligo_syntax.specs.Rules.{greedy}
 use Rattle.ligo_syntax.specs.declared.type_expr.TypeExpr.{TypeExpr}
 use Rattle.ligo_syntax.specs.declared.pattern.Pattern.{Pattern}
 use Rattle.ligo_syntax.specs.declared.expr.Expr.{Expr}
@@ -12,8 +13,11 @@ use Rattle.ligo_syntax.specs.declared.expr.Arm.{Arm}
 use Rattle.ligo_syntax.specs.declared.expr.ArmPattern.{ArmPattern}
 use Rattle.ligo_syntax.specs.Kinds.{Tokens}
 use Rattle.ligo_syntax.specs.Depth.{type_depth, pattern_depth, expr_depth, arm_depth, arm_pattern_depth, field_depth, if_there, deepest}
-use Rattle.ligo_syntax.specs.Trees.{link_depth, upper_expr, paren_expr, list_expr, field_of, record_inside, with_inside, brace_expr, applied, negated, binary, maybe_binary, dotted, tuple_expr, if_expr, arm_of, match_expr, let_expr, leaf_expr}
-use Rattle.ligo_syntax.specs.Grammar.{Form, Whole, Part, Condition, Disjunction, Conjunction, Comparison, Joined, Consed, Sum, Product, Unary, Application, Atom, FormRule, PatternRule, ArmRule, IsType, IsPattern, IsExpr}
+use Rattle.ligo_syntax.specs.AtomTrees.{link_depth, upper_expr, paren_expr, list_expr, field_of, record_inside, with_inside, brace_expr, dotted, leaf_expr}
+use Rattle.ligo_syntax.specs.ExprTrees.{applied, negated, binary, maybe_binary, tuple_expr, if_expr, arm_of, match_expr, let_expr}
+use Rattle.ligo_syntax.specs.TypeGrammar.{PatternRule, IsType, IsPattern}
+use Rattle.ligo_syntax.specs.AtomGrammar.{Form, Whole, Part, Condition, Disjunction, Conjunction, Comparison, Joined, Consed, Sum, Product, Unary, Application, Atom}
+use Rattle.ligo_syntax.specs.ExprGrammar.{FormRule, ArmRule, IsExpr}
 use Rattle.ligo_syntax.proofs.RuleLaws.{Rules, flat}
 use Rattle.ligo_syntax.proofs.Sequences.{deeper}
 use Rattle.ligo_syntax.proofs.Moves.{under}
@@ -102,10 +106,10 @@ let_depth (at, (p, (Some t, (e, f)))) = omega arith
 -- ---- each has a depth
 
 abbrev pub Exprs : Form → Rules Expr
-Exprs f n = FormRule (under IsType n) (under IsPattern n) (PatternRule (under IsPattern n)) (λ g. under (λ m. IsExpr m g) n) f
+Exprs f n = FormRule greedy (under IsType n) (under IsPattern n) (PatternRule (under IsPattern n)) (λ g. under (λ m. IsExpr m g) n) f
 
 abbrev pub Arms : Rules Arm
-Arms n = ArmRule (under IsType n) (under IsPattern n) (PatternRule (under IsPattern n)) (λ g. under (λ m. IsExpr m g) n)
+Arms n = ArmRule greedy (under IsType n) (under IsPattern n) (PatternRule (under IsPattern n)) (λ g. under (λ m. IsExpr m g) n)
 
 applied_counts : (p : Expr × List Expr) → 1 ≤ expr_depth p.0 → 1 ≤ expr_depth (applied p)
 applied_counts (e, []) le = le

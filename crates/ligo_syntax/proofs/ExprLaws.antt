@@ -10,12 +10,18 @@ use Rattle.ligo_syntax.specs.declared.expr.Operator.TheVariants as operator
 use Rattle.ligo_syntax.specs.declared.expr.Arm.{Arm}
 use Rattle.ligo_syntax.specs.Kinds.{Tokens, has}
 use Rattle.ligo_syntax.specs.Classes.{leaf_kinds, link_kinds, product_kinds, sum_kinds, comparison_kinds, atom_firsts, op_firsts, condition_firsts, expr_firsts, arm_firsts, type_firsts}
-use Rattle.ligo_syntax.specs.Rules.{Rule}
-use Rattle.ligo_syntax.specs.Readers.{Reader, both, made, optional, key, closed, listed}
+use Rattle.ligo_syntax.specs.Rules.{Rule, Greed, greedy}
+use Rattle.ligo_syntax.specs.Readers.{Reader, both, made}
+use Rattle.ligo_syntax.specs.Phrases.{optional, key, closed, listed}
 use Rattle.ligo_syntax.specs.Depth.{type_depth, expr_depth, arm_depth, if_there}
-use Rattle.ligo_syntax.specs.Trees.{leaf_expr, dotted, applied, negated, binary, maybe_binary, tuple_expr, paren_expr, list_expr, brace_expr, upper_expr, if_expr, match_expr, let_expr, arm_of}
-use Rattle.ligo_syntax.specs.Grammar.{Form, Whole, Part, Condition, Disjunction, Conjunction, Comparison, Joined, Consed, Sum, Product, Unary, Application, Atom, ParenRule, SquareRule, BraceRule, UpperRule, IfRule, TupleRule, MatchRule, LetRule, PatternRule, IsType, IsPattern}
-use Rattle.ligo_syntax.specs.Reading.{token, Several, Tuple, paren_rule, square_rule, brace_rule, upper_rule, if_rule, tuple_rule, match_rule, let_rule, firsts_of, form_at, arm_at, read_type}
+use Rattle.ligo_syntax.specs.AtomTrees.{leaf_expr, dotted, paren_expr, list_expr, brace_expr, upper_expr}
+use Rattle.ligo_syntax.specs.ExprTrees.{applied, negated, binary, maybe_binary, tuple_expr, if_expr, match_expr, let_expr, arm_of}
+use Rattle.ligo_syntax.specs.TypeGrammar.{PatternRule, IsType, IsPattern}
+use Rattle.ligo_syntax.specs.AtomGrammar.{Form, Whole, Part, Condition, Disjunction, Conjunction, Comparison, Joined, Consed, Sum, Product, Unary, Application, Atom, ParenRule, SquareRule, BraceRule, UpperRule}
+use Rattle.ligo_syntax.specs.ExprGrammar.{IfRule, TupleRule, MatchRule, LetRule}
+use Rattle.ligo_syntax.specs.TypeReading.{token, Several, Tuple, read_type}
+use Rattle.ligo_syntax.specs.AtomReading.{paren_rule, square_rule, brace_rule, upper_rule}
+use Rattle.ligo_syntax.specs.ExprReading.{if_rule, tuple_rule, match_rule, let_rule, firsts_of, form_at, arm_at}
 use Rattle.ligo_syntax.proofs.RuleLaws.{Standing, Rules, Pair, Law, Least, token_law, token_least, made_law, made_least}
 use Rattle.ligo_syntax.proofs.Sequences.{deeper, both_law, both_least}
 use Rattle.ligo_syntax.proofs.Choices.{either_law, either_first}
@@ -41,8 +47,8 @@ abbrev pub arm_pair : ℕ → Pair Arm
 arm_pair d i = arm_at (limits d (beyond d) i)
 
 -- a rule of expressions, with what stands in it further inside
-abbrev Of : (Rule TypeExpr → Rule Pattern → Rule Pattern → (Form → Rule Expr) → Rule Expr) → Rules Expr
-Of R n = R (under IsType n) (under IsPattern n) (PatternRule (under IsPattern n)) (λ g. Inside g n)
+abbrev Of : (Greed → Rule TypeExpr → Rule Pattern → Rule Pattern → (Form → Rule Expr) → Rule Expr) → Rules Expr
+Of R n = R greedy (under IsType n) (under IsPattern n) (PatternRule (under IsPattern n)) (λ g. Inside g n)
 
 abbrev pair : (ℕ → (Form → Reader Expr) → Reader Arm → Reader Expr) → ℕ → Pair Expr
 pair p d i = p (limits d (beyond d) i) (form_at (limits d (beyond d) i)) (arm_at (limits d (beyond d) i))

@@ -8,11 +8,16 @@ use Rattle.ligo_syntax.specs.declared.expr.Operator.TheVariants as operator
 use Rattle.ligo_syntax.specs.declared.expr.Arm.{Arm}
 use Rattle.ligo_syntax.specs.Kinds.{Kinds}
 use Rattle.ligo_syntax.specs.Classes.{leaf_kinds, link_kinds, product_kinds, sum_kinds, comparison_kinds, atom_firsts, op_firsts, condition_firsts, expr_firsts, arm_firsts}
-use Rattle.ligo_syntax.specs.Readers.{Reader, both, made, repeated, optional, key, from}
+use Rattle.ligo_syntax.specs.Readers.{Reader, both, made, repeated}
+use Rattle.ligo_syntax.specs.Phrases.{optional, key, from}
 use Rattle.ligo_syntax.specs.Depth.{expr_depth}
-use Rattle.ligo_syntax.specs.Trees.{leaf_expr, dotted, applied, negated, binary, maybe_binary, tuple_expr, arm_of}
-use Rattle.ligo_syntax.specs.Grammar.{Form, Whole, Part, Condition, Disjunction, Conjunction, Comparison, Joined, Consed, Sum, Product, Unary, Application, Atom}
-use Rattle.ligo_syntax.specs.Reading.{token, paren_rule, square_rule, brace_rule, upper_rule, base_rule, atom_rule, application_rule, unary_rule, product_rule, sum_rule, consed_rule, joined_rule, comparison_rule, conjunction_rule, disjunction_rule, if_rule, condition_rule, tuple_rule, match_rule, let_rule, form_rule, firsts_of, form_at, arm_at}
+use Rattle.ligo_syntax.specs.AtomTrees.{leaf_expr, dotted}
+use Rattle.ligo_syntax.specs.ExprTrees.{applied, negated, binary, maybe_binary, tuple_expr, arm_of}
+use Rattle.ligo_syntax.specs.AtomGrammar.{Form, Whole, Part, Condition, Disjunction, Conjunction, Comparison, Joined, Consed, Sum, Product, Unary, Application, Atom}
+use Rattle.ligo_syntax.specs.TypeReading.{token}
+use Rattle.ligo_syntax.specs.AtomReading.{paren_rule, square_rule, brace_rule, upper_rule, base_rule, atom_rule, application_rule}
+use Rattle.ligo_syntax.specs.OperatorReading.{unary_rule, product_rule, sum_rule, consed_rule, joined_rule, comparison_rule, conjunction_rule, disjunction_rule}
+use Rattle.ligo_syntax.specs.ExprReading.{if_rule, condition_rule, tuple_rule, match_rule, let_rule, form_rule, firsts_of, form_at, arm_at}
 use Rattle.ligo_syntax.proofs.RuleLaws.{Least, token_least, made_least}
 use Rattle.ligo_syntax.proofs.Sequences.{both_least}
 use Rattle.ligo_syntax.proofs.Choices.{either_least}

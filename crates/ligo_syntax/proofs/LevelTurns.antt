@@ -3,10 +3,11 @@ use Rattle.std.proofs.Common.{◌≡◌, ℕ, suc, refl}
 use Rattle.micheline_text.specs.Told.{IsTold}
 use Rattle.ligo_syntax.specs.declared.fault.Stop.{Stop}
 use Rattle.ligo_syntax.specs.declared.fault.Stop.TheVariants as stop
-use Rattle.ligo_syntax.specs.Grammar.{Whole}
+use Rattle.ligo_syntax.specs.AtomGrammar.{Whole}
 use Rattle.ligo_syntax.specs.Kinds.{Tokens}
-use Rattle.ligo_syntax.specs.Readers.{stopped}
-use Rattle.ligo_syntax.specs.Reading.{pattern_at, pattern_rule, Several, Single, arm_pattern_at, arm_pattern_rule, form_at, arm_at, arm_rule}
+use Rattle.ligo_syntax.specs.Phrases.{stopped}
+use Rattle.ligo_syntax.specs.TypeReading.{pattern_at, pattern_rule, Several, Single, arm_pattern_at, arm_pattern_rule}
+use Rattle.ligo_syntax.specs.ExprReading.{form_at, arm_at, arm_rule}
 
 -- the first pattern of some fails
 pub pattern_fails : (e : Stop) (d k : ℕ) (ts : Tokens) → d ≡ suc k → IsTold (stopped e) (pattern_rule (pattern_at k Several) ts) → IsTold (stopped e) (pattern_at d Several ts)

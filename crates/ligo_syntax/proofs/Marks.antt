@@ -5,7 +5,7 @@ use Rattle.ligo_tokens.specs.declared.token.Token.{Token}
 use Rattle.ligo_syntax.specs.declared.fault.Expected.TheVariants as expected
 use Rattle.ligo_syntax.specs.Kinds.{Tokens, Kinds, sort, next, has}
 use Rattle.ligo_syntax.specs.Readers.{Read, loop}
-use Rattle.ligo_syntax.specs.Reading.{token}
+use Rattle.ligo_syntax.specs.TypeReading.{token}
 use Rattle.ligo_syntax.proofs.RuleLaws.{taken}
 use Rattle.ligo_syntax.proofs.Turns.{with_front, goes_on, stops_at}
 

@@ -12,10 +12,14 @@ use Rattle.ligo_syntax.specs.declared.expr.ExprForm.{ExprForm}
 use Rattle.ligo_syntax.specs.declared.expr.ValueField.{ValueField}
 use Rattle.ligo_syntax.specs.Kinds.{Tokens, Kinds, code, sort_of, sort, has}
 use Rattle.ligo_syntax.specs.Classes.{name_kinds, leaf_kinds, link_kinds}
-use Rattle.ligo_syntax.specs.Rules.{Rule, OneOf, Both, Made, Either, Repeated, Key, Parted, Listed}
-use Rattle.ligo_syntax.specs.Trees.{expr_node, leaf_expr, leaf_expr_form, word_of, said_word, dotted, dot_form, upper_expr, upper_link, link_depth, paren_expr, list_expr, brace_expr, record_inside, with_inside}
-use Rattle.ligo_syntax.specs.Grammar.{Form, Whole, Atom, FieldRule, AtomRule, PatternRule, IsType, IsPattern, IsExpr, ParenRule, SquareRule, BraceRule, UpperRule}
-use Rattle.ligo_syntax.specs.Reading.{name_alone}
+use Rattle.ligo_syntax.specs.Rules.{Rule, OneOf, Both, Made, Either, Repeated, Key, Parted, Listed, Greed, greedy}
+use Rattle.ligo_syntax.specs.Said.{word_of, said_word}
+use Rattle.ligo_syntax.specs.TreeNodes.{expr_node}
+use Rattle.ligo_syntax.specs.AtomTrees.{leaf_expr, leaf_expr_form, dotted, dot_form, upper_expr, upper_link, link_depth, paren_expr, list_expr, brace_expr, record_inside, with_inside}
+use Rattle.ligo_syntax.specs.TypeGrammar.{PatternRule, IsType, IsPattern}
+use Rattle.ligo_syntax.specs.AtomGrammar.{Form, Whole, Atom, FieldRule, AtomRule, ParenRule, SquareRule, BraceRule, UpperRule}
+use Rattle.ligo_syntax.specs.ExprGrammar.{IsExpr}
+use Rattle.ligo_syntax.specs.AtomReading.{name_alone}
 use Rattle.ligo_syntax.proofs.Sets.{by_case, has_append, in_second}
 use Rattle.ligo_syntax.proofs.Moves.{under}
 
@@ -110,15 +114,15 @@ inside_name : (R : Rule (List ValueField)) (R' : Rule (Expr × (ValueField × Li
 inside_name R R' ts x rest at (inl l) = ap (λ (y : ℕ × ExprForm). name_alone (brace_expr (at, y))) (l.2) ∙ record_name at l.0
 inside_name R R' ts x rest at (inr l) = ap (λ (y : ℕ × ExprForm). name_alone (brace_expr (at, y))) (l.2) ∙ with_name at l.0
 
-module _ (T : Rule TypeExpr) (Pat One : Rule Pattern) (E : Form → Rule Expr) where
-  not_brace : (ts : Tokens) (b : Expr) (rest : Tokens) → BraceRule T Pat One E ts b rest → name_alone b ≡ None
+module _ (must : Greed) (T : Rule TypeExpr) (Pat One : Rule Pattern) (E : Form → Rule Expr) where
+  not_brace : (ts : Tokens) (b : Expr) (rest : Tokens) → BraceRule must T Pat One E ts b rest → name_alone b ≡ None
   not_brace ts b rest r =
       let f = r.1 in
       let c = (f.1).2 in
-      ap name_alone (r.2) ∙ ap (λ (q : ℕ × (ℕ × ExprForm)). name_alone (brace_expr q)) (f.2) ∙ ap (λ (x : ℕ × ExprForm). name_alone (brace_expr ((f.0).0.at, x))) (c.2) ∙ inside_name (Listed (FieldRule T Pat One E)) (Both (E Atom) (Key kind.With (Parted kind.Semicolon (FieldRule T Pat One E)))) (f.1).0 (c.0).0 (c.1).0 (f.0).0.at ((c.1).1)
+      ap name_alone (r.2) ∙ ap (λ (q : ℕ × (ℕ × ExprForm)). name_alone (brace_expr q)) (f.2) ∙ ap (λ (x : ℕ × ExprForm). name_alone (brace_expr ((f.0).0.at, x))) (c.2) ∙ inside_name (Listed (FieldRule must T Pat One E)) (Both (E Atom) (Key kind.With (Parted kind.Semicolon (FieldRule must T Pat One E)))) (f.1).0 (c.0).0 (c.1).0 (f.0).0.at ((c.1).1)
 
   base_name : (ts : Tokens) (b : Expr) (mid : Tokens) (word : List ℕ) → name_alone b ≡ Some word →
-      Either (ParenRule T Pat One E) (Either (SquareRule T Pat One E) (Either (BraceRule T Pat One E) (Either (UpperRule T Pat One E) (Made leaf_expr (OneOf leaf_kinds))))) ts b mid → NameToken ts b mid
+      Either (ParenRule must T Pat One E) (Either (SquareRule must T Pat One E) (Either (BraceRule must T Pat One E) (Either (UpperRule must T Pat One E) (Made leaf_expr (OneOf leaf_kinds))))) ts b mid → NameToken ts b mid
   base_name ts b mid word h (inl r) = no_name word b (paren_expr r.0) h (r.2) (not_paren r.0)
   base_name ts b mid word h (inr (inl r)) = no_name word b (list_expr r.0) h (r.2) (not_list r.0)
   base_name ts b mid word h (inr (inr (inl r))) = no_name word b b h refl (not_brace ts b mid r)
@@ -128,17 +132,17 @@ module _ (T : Rule TypeExpr) (Pat One : Rule Pattern) (E : Form → Rule Expr) w
       (λ is. (r.0, (r.1).0, ap (λ x. x || has name_kinds (sort r.0)) (sym is) ∙ sym (has_append literal_kinds name_kinds (sort r.0)) ∙ (r.1).1, r.2))
 
   atom_name : (ts : Tokens) (b : Expr) (links : List Token) (mid rest : Tokens) (word : List ℕ) → name_alone (fold dotted b links) ≡ Some word →
-      Either (ParenRule T Pat One E) (Either (SquareRule T Pat One E) (Either (BraceRule T Pat One E) (Either (UpperRule T Pat One E) (Made leaf_expr (OneOf leaf_kinds))))) ts b mid →
+      Either (ParenRule must T Pat One E) (Either (SquareRule must T Pat One E) (Either (BraceRule must T Pat One E) (Either (UpperRule must T Pat One E) (Made leaf_expr (OneOf leaf_kinds))))) ts b mid →
       Repeated (Key kind.Dot (OneOf link_kinds)) mid links rest → NameToken ts (fold dotted b links) rest
   atom_name ts b [] mid rest word h r k = subst (NameToken ts b) k (base_name ts b mid word h r)
   atom_name ts b (a ∷ more) mid rest word h r k = no_name word (fold dotted b (a ∷ more)) (fold dotted b (a ∷ more)) h refl (not_links b a more)
 
   -- an atom that is a name alone is one token
-  one_name : (ts : Tokens) (e : Expr) (rest : Tokens) (word : List ℕ) → AtomRule T Pat One E ts e rest → name_alone e ≡ Some word → NameToken ts e rest
+  one_name : (ts : Tokens) (e : Expr) (rest : Tokens) (word : List ℕ) → AtomRule must T Pat One E ts e rest → name_alone e ≡ Some word → NameToken ts e rest
   one_name ts e rest word r h = subst (λ x. NameToken ts x rest) (sym (r.2)) (atom_name ts (r.0).0 (r.0).1 (r.1).0 rest word (ap name_alone (sym (r.2)) ∙ h) ((r.1).1) ((r.1).2))
 
   -- and a name is one
-  a_name_is : (t : Token) (rest : Tokens) → has name_kinds (sort t) ≡ true → AtomRule T Pat One E (t ∷ rest) (leaf_expr t) rest
+  a_name_is : (t : Token) (rest : Tokens) → has name_kinds (sort t) ≡ true → AtomRule must T Pat One E (t ∷ rest) (leaf_expr t) rest
   a_name_is t rest h = ((leaf_expr t, []), (rest, inr (inr (inr (inr (t, (refl, in_second literal_kinds name_kinds (sort t) h), refl)))), refl), refl)
 
 -- the same further inside
@@ -148,9 +152,9 @@ Inside f n = under (λ m. IsExpr m f) n
 pub one_name_inside : (n : ℕ) (ts : Tokens) (e : Expr) (rest : Tokens) (word : List ℕ) → Inside Atom n ts e rest → name_alone e ≡ Some word → NameToken ts e rest
 one_name_inside zero ts e rest word r h = absurd r
 one_name_inside (suc zero) ts e rest word r h = absurd r
-one_name_inside (suc (suc n)) ts e rest word r h = one_name (IsType n) (IsPattern n) (PatternRule (IsPattern n)) (IsExpr n) ts e rest word r h
+one_name_inside (suc (suc n)) ts e rest word r h = one_name greedy (IsType n) (IsPattern n) (PatternRule (IsPattern n)) (IsExpr n) ts e rest word r h
 
 pub name_inside : (n : ℕ) (us : Tokens) (e : Expr) (end : Tokens) → Inside Whole n us e end → (t : Token) (rest : Tokens) → has name_kinds (sort t) ≡ true → Inside Atom n (t ∷ rest) (leaf_expr t) rest
 name_inside zero us e end r t rest h = absurd r
 name_inside (suc zero) us e end r t rest h = absurd r
-name_inside (suc (suc n)) us e end r t rest h = a_name_is (IsType n) (IsPattern n) (PatternRule (IsPattern n)) (IsExpr n) t rest h
+name_inside (suc (suc n)) us e end r t rest h = a_name_is greedy (IsType n) (IsPattern n) (PatternRule (IsPattern n)) (IsExpr n) t rest h

@@ -7,11 +7,13 @@ use Rattle.ligo_syntax.specs.declared.pattern.Pattern.{Pattern}
 use Rattle.ligo_syntax.specs.declared.expr.ArmPattern.{ArmPattern}
 use Rattle.ligo_syntax.specs.Kinds.{Tokens, Kinds}
 use Rattle.ligo_syntax.specs.Classes.{name_kinds, pattern_firsts, arm_firsts}
-use Rattle.ligo_syntax.specs.Readers.{Reader, one_of, both, made, repeated, optional, key, from, closed}
+use Rattle.ligo_syntax.specs.Readers.{Reader, one_of, both, made, repeated}
+use Rattle.ligo_syntax.specs.Phrases.{optional, key, from, closed}
 use Rattle.ligo_syntax.specs.Depth.{pattern_depth, arm_pattern_depth, if_there, deepest}
-use Rattle.ligo_syntax.specs.Trees.{bracket_pattern, leaf_pattern, tuple_pattern, any_arm, nil_arm, constructor_arm, cons_arm}
-use Rattle.ligo_syntax.specs.Grammar.{PatternRule, PatternsRule, ArmPatternRule, IsPattern}
-use Rattle.ligo_syntax.specs.Reading.{token, pattern_rule, PatternLevel, Several, Single, pattern_at, arm_pattern_at}
+use Rattle.ligo_syntax.specs.TypeTrees.{bracket_pattern, leaf_pattern, tuple_pattern}
+use Rattle.ligo_syntax.specs.ExprTrees.{any_arm, nil_arm, constructor_arm, cons_arm}
+use Rattle.ligo_syntax.specs.TypeGrammar.{PatternRule, PatternsRule, ArmPatternRule, IsPattern}
+use Rattle.ligo_syntax.specs.TypeReading.{token, pattern_rule, PatternLevel, Several, Single, pattern_at, arm_pattern_at}
 use Rattle.ligo_syntax.proofs.RuleLaws.{Standing, Rules, Pair, Law, Least, flat, token_law, token_least, made_law, made_least}
 use Rattle.ligo_syntax.proofs.Sequences.{deeper, both_law, both_least}
 use Rattle.ligo_syntax.proofs.Choices.{either_law, either_least}

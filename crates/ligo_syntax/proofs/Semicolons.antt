@@ -8,7 +8,8 @@ use Rattle.ligo_syntax.specs.declared.fault.Expected.{Expected}
 use Rattle.ligo_syntax.specs.Kinds.{Tokens, Kinds, sort, next, has, Ends}
 use Rattle.ligo_syntax.specs.Depth.{deepest}
 use Rattle.ligo_syntax.specs.Rules.{Rule, OneOf, Made, Both, Repeated, Key, Optional, Listed}
-use Rattle.ligo_syntax.specs.Readers.{Read, Reader, then_do, semicolons, more_of, listed}
+use Rattle.ligo_syntax.specs.Readers.{Read, Reader, then_do}
+use Rattle.ligo_syntax.specs.Phrases.{semicolons, more_of, listed}
 use Rattle.ligo_syntax.proofs.Sets.{apart, by_case, apart_has, ends_first, ends_second}
 use Rattle.ligo_syntax.proofs.RuleLaws.{Same, May, Fill, Begins, Standing, Rules, Pair, Stays, Breaks, Sinks, Goes, Starts, Law, Least, same_filled, then_inv, unwrap, made_least}
 use Rattle.ligo_syntax.proofs.Sequences.{from_empty, deeper, both_pair, both_law, both_least}

@@ -10,7 +10,8 @@ use Rattle.ligo_syntax.specs.declared.fault.Stop.TheVariants as stop
 use Rattle.ligo_syntax.specs.declared.fault.Expected.TheVariants as expected
 use Rattle.ligo_syntax.specs.Kinds.{Tokens, Kinds, next, has}
 use Rattle.ligo_syntax.specs.Depth.{deepest}
-use Rattle.ligo_syntax.specs.Readers.{Read, Reader, then_do, one_of, both, key, loop, links, semicolons, stopped}
+use Rattle.ligo_syntax.specs.Readers.{Read, Reader, then_do, one_of, both, loop, links}
+use Rattle.ligo_syntax.specs.Phrases.{key, semicolons, stopped}
 
 -- a link is taken
 pub link_on : {A B : Type 0} (depth : B → ℕ) (d : ℕ) (f : B → A → B) (F : Kinds) (p : Reader A) (count i : ℕ) (b : B) (ts : Tokens) (a : A) (rest : Tokens) (total : Read B) →

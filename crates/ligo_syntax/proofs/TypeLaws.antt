@@ -6,11 +6,12 @@ use Rattle.ligo_syntax.specs.declared.fault.Expected.TheVariants as expected
 use Rattle.ligo_syntax.specs.declared.type_expr.TypeExpr.{TypeExpr}
 use Rattle.ligo_syntax.specs.Kinds.{Tokens, Kinds}
 use Rattle.ligo_syntax.specs.Classes.{name_kinds, map_kinds, postfix_kinds, type_firsts}
-use Rattle.ligo_syntax.specs.Readers.{both, made, either, repeated, key}
+use Rattle.ligo_syntax.specs.Readers.{both, made, either, repeated}
+use Rattle.ligo_syntax.specs.Phrases.{key}
 use Rattle.ligo_syntax.specs.Depth.{type_depth, if_there, deepest}
-use Rattle.ligo_syntax.specs.Trees.{type_name, bracket_type, postfixed, tuple_type}
-use Rattle.ligo_syntax.specs.Grammar.{BracketType, PostType, TypeRule, IsType}
-use Rattle.ligo_syntax.specs.Reading.{token, bracket_type_rule, post_type_rule, TypeLevel, Tuple, Post, type_at}
+use Rattle.ligo_syntax.specs.TypeTrees.{type_name, bracket_type, postfixed, tuple_type}
+use Rattle.ligo_syntax.specs.TypeGrammar.{BracketType, PostType, TypeRule, IsType}
+use Rattle.ligo_syntax.specs.TypeReading.{token, bracket_type_rule, post_type_rule, TypeLevel, Tuple, Post, type_at}
 use Rattle.ligo_syntax.proofs.RuleLaws.{Standing, Rules, Pair, Law, Least, flat, token_law, token_least, made_law, made_least}
 use Rattle.ligo_syntax.proofs.Sequences.{deeper, both_law, both_least}
 use Rattle.ligo_syntax.proofs.Choices.{either_law, either_least}

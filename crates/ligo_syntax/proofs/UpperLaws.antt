@@ -8,8 +8,9 @@ use Rattle.ligo_syntax.specs.Kinds.{Tokens, code, sort, has}
 use Rattle.ligo_syntax.specs.Classes.{name_kinds, link_kinds}
 use Rattle.ligo_syntax.specs.Rules.{OneOf, Either}
 use Rattle.ligo_syntax.specs.Readers.{either}
-use Rattle.ligo_syntax.specs.Trees.{link_depth, digits_depth}
-use Rattle.ligo_syntax.specs.Reading.{token, upper_link_at}
+use Rattle.ligo_syntax.specs.AtomTrees.{link_depth, digits_depth}
+use Rattle.ligo_syntax.specs.TypeReading.{token}
+use Rattle.ligo_syntax.specs.AtomReading.{upper_link_at}
 use Rattle.ligo_syntax.specs.declared.fault.Stop.TheVariants as stop
 use Rattle.ligo_syntax.proofs.Sets.{by_case, has_append, in_first, in_second}
 use Rattle.ligo_syntax.proofs.RuleLaws.{Standing, Pair, Law, flat, token_law, token_least, taken}

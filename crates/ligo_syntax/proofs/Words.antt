@@ -7,7 +7,8 @@ use Rattle.ligo_syntax.specs.declared.fault.Expected.TheVariants as expected
 use Rattle.ligo_syntax.specs.Kinds.{Tokens, Kinds, code, has}
 use Rattle.ligo_syntax.specs.Depth.{if_there}
 use Rattle.ligo_syntax.specs.Rules.{OneOf, Key, From, Closed, Optional, IfItCan}
-use Rattle.ligo_syntax.specs.Readers.{Reader, one_of, made, key, from, closed, optional}
+use Rattle.ligo_syntax.specs.Readers.{Reader, one_of, made}
+use Rattle.ligo_syntax.specs.Phrases.{key, from, closed, optional}
 use Rattle.ligo_syntax.proofs.Sets.{apart, when}
 use Rattle.ligo_syntax.proofs.RuleLaws.{Standing, Rules, Pair, Law, Least, flat, steady, token_law, token_least, nothing_law, nothing_least, made_law, made_least}
 use Rattle.ligo_syntax.proofs.Sequences.{both_law, both_least}

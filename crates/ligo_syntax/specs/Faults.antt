@@ -17,7 +17,10 @@ use Rattle.ligo_syntax.specs.declared.program.Definition.{Definition}
 use Rattle.ligo_syntax.specs.declared.program.Decl.{Decl}
 use Rattle.ligo_syntax.specs.declared.program.Program.{Program}
 use Rattle.ligo_syntax.specs.Kinds.{Tokens}
-use Rattle.ligo_syntax.specs.Grammar.{Form, Whole, IsType, IsPattern, PatternRule, ArmPatternRule, IsExpr, DefinitionRule, DeclRule, IsLooseText, IsText}
+use Rattle.ligo_syntax.specs.TypeGrammar.{IsType, IsPattern, PatternRule, ArmPatternRule}
+use Rattle.ligo_syntax.specs.AtomGrammar.{Form, Whole}
+use Rattle.ligo_syntax.specs.ExprGrammar.{IsExpr}
+use Rattle.ligo_syntax.specs.Grammar.{DefinitionRule, DeclRule, IsLooseText, IsText}
 
 -- some tokens behind these make them a text of the loose grammar
 abbrev pub GoesOn : Tokens → Type 0
@@ -49,6 +52,7 @@ abbrev pub least_says : Kind → Says
 least_says kind.Tez = says.Mutez 0
 least_says k = says.Number (pos 0)
 
+-- a numeral, made the least
 abbrev pub smaller : Token → Token
 smaller t = record { at = t.at; kind = t.kind; says = Some (least_says t.kind) }
 

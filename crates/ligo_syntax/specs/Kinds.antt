@@ -6,9 +6,11 @@ use Rattle.ligo_tokens.specs.declared.token.Kind.TheVariants as kind
 use Rattle.ligo_tokens.specs.declared.token.Says.{Says}
 use Rattle.ligo_tokens.specs.declared.token.Says.TheVariants as says
 
+-- a text as tokens
 abbrev pub Tokens : Type 0
 Tokens = List Token
 
+-- a set of kinds
 abbrev pub Kinds : Type 0
 Kinds = List Kind
 
@@ -73,6 +75,7 @@ abbrev pub sort_of : Kind → Option Says → ℕ
 sort_of k (Some says.Wide) = 64
 sort_of k said = code k
 
+-- the number of a token
 abbrev pub sort : Token → ℕ
 sort t = sort_of t.kind t.says
 

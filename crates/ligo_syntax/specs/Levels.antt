@@ -1,8 +1,9 @@
 -- The levels of expressions as the code names them.
 use Rattle.ligo_syntax.specs.declared.level.Level.{Level}
 use Rattle.ligo_syntax.specs.declared.level.Level.TheVariants as level
-use Rattle.ligo_syntax.specs.Grammar.{Form, Whole, Part, Condition, Disjunction, Conjunction, Comparison, Joined, Consed, Sum, Product, Unary, Application, Atom}
+use Rattle.ligo_syntax.specs.AtomGrammar.{Form, Whole, Part, Condition, Disjunction, Conjunction, Comparison, Joined, Consed, Sum, Product, Unary, Application, Atom}
 
+-- the form of a level
 abbrev pub form_of : Level → Form
 form_of level.Whole = Whole
 form_of level.Part = Part

@@ -1,34 +1,36 @@
 -- Reading from the front of a list of tokens, told by the next token alone, and at most so deep. A
 -- fault says how many tokens are left at it.
-use Rattle.std.specs.Prelude.{ℕ, zero, suc, nat_lt, cond, List, [], ◌∷◌, length, Option, Some, None, Result, Ok, Err}
-use Rattle.micheline_text.specs.Told.{AnswersUnlessFull}
+use Rattle.std.specs.Prelude.{ℕ, zero, suc, nat_lt, cond, List, [], ◌∷◌, length, Result, Ok, Err}
 use Rattle.ligo_tokens.specs.declared.token.Token.{Token}
-use Rattle.ligo_tokens.specs.declared.token.Kind.{Kind}
-use Rattle.ligo_tokens.specs.declared.token.Kind.TheVariants as kind
 use Rattle.ligo_syntax.specs.declared.fault.Stop.{Stop}
 use Rattle.ligo_syntax.specs.declared.fault.Stop.TheVariants as stop
 use Rattle.ligo_syntax.specs.declared.fault.Expected.{Expected}
-use Rattle.ligo_syntax.specs.declared.fault.Expected.TheVariants as expected
 use Rattle.ligo_syntax.specs.Kinds.{Tokens, Kinds, sort, next, has}
 
+-- what reading gives: something and the tokens behind it, or why it stopped
 abbrev pub Read : Type 0 → Type 0
 Read A = Result (A × Tokens) Stop
 
+-- what may be read from the front of tokens
 abbrev pub Reader : Type 0 → Type 0
 Reader A = Tokens → Read A
 
+-- and then, with what was read
 abbrev pub then_do : {A B : Type 0} → Read A → (A → Tokens → Read B) → Read B
 then_do (Ok x) f = f x.0 x.1
 then_do (Err e) f = Err e
 
+-- a token of one of these kinds
 abbrev pub one_of : Expected → Kinds → Reader Token
 one_of e kinds [] = Err (stop.Unexpected e 0)
 one_of e kinds (t ∷ ts) =
     cond (has kinds (sort t)) (Ok (t, ts)) (Err (stop.Unexpected e (length (t ∷ ts))))
 
+-- no token
 abbrev pub nothing : {A : Type 0} → A → Reader A
 nothing value ts = Ok (value, ts)
 
+-- one and then the other
 abbrev pub both : {A B : Type 0} → Reader A → Reader B → Reader (A × B)
 both p q ts = then_do (p ts) (λ a rest. then_do (q rest) (λ b end. Ok ((a, b), end)))
 
@@ -36,6 +38,7 @@ both p q ts = then_do (p ts) (λ a rest. then_do (q rest) (λ b end. Ok ((a, b),
 abbrev pub onward : {A B : Type 0} → Reader A → (A → Reader B) → Reader (A × B)
 onward p k ts = then_do (p ts) (λ a rest. then_do (k a rest) (λ b end. Ok ((a, b), end)))
 
+-- its tree is made by a function
 abbrev pub made : {A B : Type 0} → (A → B) → Reader A → Reader B
 made f p ts = then_do (p ts) (λ a rest. Ok (f a, rest))
 
@@ -50,6 +53,7 @@ loop kinds p (suc n) ts = cond (has kinds (next ts))
     (then_do (p ts) (λ a after. then_do (loop kinds p n after) (λ rest end. Ok (a ∷ rest, end))))
     (Ok ([], ts))
 
+-- the same, to their end
 abbrev pub repeated : {A : Type 0} → Kinds → Reader A → Reader (List A)
 repeated kinds p ts = loop kinds p (length ts) ts
 
@@ -60,6 +64,7 @@ abbrev pub too_deep_at : Expected → Kinds → Tokens → Stop
 too_deep_at e kinds ts =
     cond (has kinds (next ts)) (stop.TooDeep (length ts)) (stop.Unexpected e (length ts))
 
+-- nothing, since no depth is left
 abbrev pub too_deep : {A : Type 0} → Expected → Kinds → Reader A
 too_deep e kinds ts = Err (too_deep_at e kinds ts)
 
@@ -78,52 +83,7 @@ links depth d f kinds p (suc n) b ts = cond (has kinds (next ts))
     (Err (stop.TooDeep (length ts))))
     (Ok (b, ts))
 
+-- one and links behind it
 abbrev pub chain : {A B : Type 0} → (B → ℕ) → ℕ → (B → A → B) → Reader B → Kinds → Reader A → Reader B
 chain depth d f first kinds p ts =
     then_do (first ts) (λ b rest. links depth d f kinds p (length rest) b rest)
-
--- ---- what is made of these
-
--- a word, and then something
-abbrev pub key : {A : Type 0} → Kind → Reader A → Reader A
-key k p = made (λ (x : Token × _). x.1) (both (one_of expected.Token (k ∷ [])) p)
-
--- the same, with the offset of the word
-abbrev pub from : {A : Type 0} → Kind → Reader A → Reader (ℕ × A)
-from {A} k p = made (λ (x : Token × A). (x.0.at, x.1)) (both (one_of expected.Token (k ∷ [])) p)
-
--- something, and then a word
-abbrev pub closed : {A : Type 0} → Reader A → Kind → Reader A
-closed p k = made (λ (x : _ × Token). x.0) (both p (one_of expected.Token (k ∷ [])))
-
-abbrev pub optional : {A : Type 0} → Kinds → Reader A → Reader (Option A)
-optional kinds p = either kinds (made Some p) (nothing None)
-
-abbrev pub parted : {A : Type 0} → Reader A → Kind → Reader A → Reader (A × List A)
-parted first k p = both first (repeated (k ∷ []) (key k p))
-
--- `;` and one, as long as there is a `;`; the last may have nothing behind it
-abbrev pub semicolons : {A : Type 0} → Kinds → Reader A → ℕ → Reader (List A)
-semicolons kinds p zero ts = Ok ([], ts)
-semicolons kinds p (suc n) ts = cond (has (kind.Semicolon ∷ []) (next ts))
-    (then_do (one_of expected.Token (kind.Semicolon ∷ []) ts) (λ mark rest.
-    cond (has kinds (next rest))
-    (then_do (p rest) (λ a after. then_do (semicolons kinds p n after) (λ more end. Ok (a ∷ more, end))))
-    (Ok ([], rest))))
-    (Ok ([], ts))
-
-abbrev pub more_of : {A : Type 0} → Kinds → Reader A → Reader (List A)
-more_of kinds p ts = semicolons kinds p (length ts) ts
-
-abbrev pub listed : {A : Type 0} → Kinds → Reader A → Reader (List A)
-listed {A} kinds p = made (λ (x : A × List A). x.0 ∷ x.1) (both p (more_of kinds p))
-
--- ---- what a function of the program returned
-
-abbrev pub stopped : Stop → Option Stop
-stopped stop.NoMemory = None
-stopped s = Some s
-
--- seen by view, it is what reading gives, unless memory ran out
-abbrev pub Gives : {X Y : Type 0} → (X → Y × Tokens) → Result X Stop → Read Y → Type 0
-Gives view result read = AnswersUnlessFull stopped view result read

@@ -6,6 +6,7 @@ use Rattle.ligo_tokens.specs.declared.token.Kind.{Kind}
 use Rattle.ligo_tokens.specs.declared.token.Kind.TheVariants as kind
 use Rattle.ligo_syntax.specs.Kinds.{Tokens, Kinds, sort, has, Ends}
 
+-- tokens before, a tree, and tokens after
 abbrev pub Rule : Type 0 → Type 1
 Rule A = Tokens → A → Tokens → Type 0
 
@@ -47,11 +48,21 @@ Repeated R before [] after = before ≡ after
 Repeated R before (a ∷ more) after =
     (between : Tokens) × R before a between × Repeated R between more after
 
+-- of the kinds with which something may go on, those with which it must: all of them, or none
+abbrev pub Greed : Type 0
+Greed = Kinds → Kinds
+
+-- it takes as much as it can
+abbrev pub greedy : Greed
+greedy kinds = kinds
+
+-- it takes what it likes
+abbrev pub free : Greed
+free kinds = []
+
 -- { one }, as much as it can: none of these kinds stands behind
 abbrev pub AsMany : {A : Type 0} → Kinds → Rule A → Rule (List A)
 AsMany kinds R before all after = Repeated R before all after × Ends kinds after
-
--- ---- what is made of these
 
 -- a word, and then something
 abbrev pub Key : {A : Type 0} → Kind → Rule A → Rule A

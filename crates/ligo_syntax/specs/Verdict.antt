@@ -26,6 +26,7 @@ all_of (Err e) = Err e
 unfoldable pub most_deep : ℕ
 most_deep = 511
 
+-- the declarations that all of the tokens make up
 abbrev pub decls_of : Tokens → Result (List Decl) Stop
 decls_of ts = all_of (decls_at most_deep ts)
 
@@ -42,14 +43,17 @@ kind_at k front [] = k
 kind_at k front (t ∷ after) = cond (sort t == 64)
     (cond (goes_past (decls_of (front ++ smaller t ∷ []))) expected.NumberInRange k) k
 
+-- the fault, where this kind is wanted behind the tokens in front
 abbrev pub fault_at : ℕ → Expected → Tokens → Tokens → SyntaxFault
 fault_at end k front after = record { at = place_of end after; expected = kind_at k front after }
 
+-- the fault, by why reading stopped
 abbrev pub fault_of : ℕ → Tokens → Stop → SyntaxFault
 fault_of end ts (stop.Unexpected k n) = fault_at end k (take (length ts - n) ts) (drop (length ts - n) ts)
 fault_of end ts (stop.TooDeep n) = record { at = place_of end (drop (length ts - n) ts); expected = expected.TooDeep }
 fault_of end ts stop.NoMemory = record { at = end; expected = expected.Token }
 
+-- what is told, by what reading gave
 abbrev pub verdict_of : ℕ → Tokens → Result (List Decl) Stop → Result Program SyntaxFault
 verdict_of end ts (Ok ds) = Ok (program_of ds)
 verdict_of end ts (Err e) = Err (fault_of end ts e)

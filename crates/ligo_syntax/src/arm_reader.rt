@@ -5,9 +5,10 @@ ghost use Rattle.ligo_tokens.specs.declared.token.Kind.TheVariants as kind;
 ghost use Rattle.ligo_syntax.specs.declared.fault.Expected.TheVariants as expected;
 ghost use Rattle.ligo_syntax.specs.Classes.{arm_firsts, name_kinds, pattern_firsts};
 ghost use Rattle.ligo_syntax.specs.Depth.{arm_pattern_depth, if_there, pattern_depth};
-ghost use Rattle.ligo_syntax.specs.Readers.{Gives, both, from, key, made, one_of, optional, too_deep_at};
-ghost use Rattle.ligo_syntax.specs.Reading.{token, arm_pattern_at, arm_pattern_rule, pattern_at, Single};
-ghost use Rattle.ligo_syntax.specs.Trees.{any_arm, cons_arm, constructor_arm, nil_arm};
+ghost use Rattle.ligo_syntax.specs.Readers.{both, made, one_of, too_deep_at};
+ghost use Rattle.ligo_syntax.specs.Phrases.{Gives, from, key, optional};
+ghost use Rattle.ligo_syntax.specs.TypeReading.{token, arm_pattern_at, arm_pattern_rule, pattern_at, Single};
+ghost use Rattle.ligo_syntax.specs.ExprTrees.{any_arm, cons_arm, constructor_arm, nil_arm};
 
 use crate::expr::{ArmForm, ArmPattern};
 use crate::fault::{Expected, Stop};

@@ -3,9 +3,11 @@
 ghost use Rattle.std.specs.Prelude.{◌≡◌, ◌∷◌, [], ◌<◌, ◌≤◌, ◌+◌, ◌-◌, ◌^◌, IfOk};
 ghost use Rattle.ligo_syntax.specs.Classes.{atom_firsts, expr_firsts};
 ghost use Rattle.ligo_syntax.specs.Depth.{deepest, expr_depth};
-ghost use Rattle.ligo_syntax.specs.Grammar.{Atom, Whole};
-ghost use Rattle.ligo_syntax.specs.Readers.{Gives, listed, more_of, repeated};
-ghost use Rattle.ligo_syntax.specs.Reading.{application_rule, atom_rule, base_rule, paren_rule, square_rule, form_at, arm_at};
+ghost use Rattle.ligo_syntax.specs.AtomGrammar.{Atom, Whole};
+ghost use Rattle.ligo_syntax.specs.Readers.{repeated};
+ghost use Rattle.ligo_syntax.specs.Phrases.{Gives, listed, more_of};
+ghost use Rattle.ligo_syntax.specs.AtomReading.{application_rule, atom_rule, base_rule, paren_rule, square_rule};
+ghost use Rattle.ligo_syntax.specs.ExprReading.{form_at, arm_at};
 
 use crate::brace_reader::read_brace;
 use crate::expr::Expr;

@@ -3,8 +3,8 @@
 ghost use Rattle.std.specs.Prelude.{◌≡◌, ◌∷◌, ◌<◌, ◌≤◌, ◌+◌, ◌-◌, ◌^◌, max, IfOk, IsTrue, Some};
 ghost use Rattle.ligo_syntax.specs.Depth.{deepest, field_depth};
 ghost use Rattle.ligo_syntax.specs.ProgramTrees.{is_there};
-ghost use Rattle.ligo_syntax.specs.Reading.{name_alone};
-ghost use Rattle.ligo_syntax.specs.Trees.{brace_expr, record_inside, with_inside};
+ghost use Rattle.ligo_syntax.specs.AtomReading.{name_alone};
+ghost use Rattle.ligo_syntax.specs.AtomTrees.{brace_expr, record_inside, with_inside};
 
 use crate::expr::{Expr, ExprForm, ValueField};
 use crate::expr_depths::deepest_field;

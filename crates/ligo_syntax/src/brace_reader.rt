@@ -4,8 +4,10 @@ ghost use Rattle.std.specs.Prelude.{◌≡◌, ◌∷◌, [], ◌<◌, ◌≤◌
 ghost use Rattle.ligo_tokens.specs.declared.token.Kind.TheVariants as kind;
 ghost use Rattle.ligo_syntax.specs.Classes.{name_kinds};
 ghost use Rattle.ligo_syntax.specs.Depth.{deepest, field_depth};
-ghost use Rattle.ligo_syntax.specs.Readers.{Gives, key, more_of, repeated};
-ghost use Rattle.ligo_syntax.specs.Reading.{brace_inside, brace_rule, field_rule, record_rest, with_rest, form_at, arm_at};
+ghost use Rattle.ligo_syntax.specs.Readers.{repeated};
+ghost use Rattle.ligo_syntax.specs.Phrases.{Gives, key, more_of};
+ghost use Rattle.ligo_syntax.specs.AtomReading.{brace_inside, brace_rule, field_rule, record_rest, with_rest};
+ghost use Rattle.ligo_syntax.specs.ExprReading.{form_at, arm_at};
 
 use crate::brace_nodes::{Inside, brace_expr, into_name, is_name, record_inside, with_inside};
 use crate::expr::{Expr, ValueField};

@@ -3,9 +3,10 @@
 ghost use Rattle.std.specs.Prelude.{◌≡◌, ◌∷◌, [], ◌<◌, ◌≤◌, ◌+◌, ◌-◌, ◌^◌, IfOk};
 ghost use Rattle.ligo_tokens.specs.declared.token.Kind.TheVariants as kind;
 ghost use Rattle.ligo_syntax.specs.Depth.{deepest, if_there, expr_depth};
-ghost use Rattle.ligo_syntax.specs.Grammar.{Condition, Part};
-ghost use Rattle.ligo_syntax.specs.Readers.{Gives, key, optional, repeated};
-ghost use Rattle.ligo_syntax.specs.Reading.{condition_rule, if_rule, tuple_rule, form_at, arm_at};
+ghost use Rattle.ligo_syntax.specs.AtomGrammar.{Condition, Part};
+ghost use Rattle.ligo_syntax.specs.Readers.{repeated};
+ghost use Rattle.ligo_syntax.specs.Phrases.{Gives, key, optional};
+ghost use Rattle.ligo_syntax.specs.ExprReading.{condition_rule, if_rule, tuple_rule, form_at, arm_at};
 
 use crate::expr::Expr;
 use crate::expr_nodes::{if_expr, tuple_expr};

@@ -7,8 +7,10 @@ ghost use Rattle.ligo_syntax.specs.declared.fault.Expected.TheVariants as expect
 ghost use Rattle.ligo_syntax.specs.Classes.{attribute_kinds, decl_firsts};
 ghost use Rattle.ligo_syntax.specs.Kinds.{has, next};
 ghost use Rattle.ligo_syntax.specs.ProgramTrees.{attribute_of, first_of};
-ghost use Rattle.ligo_syntax.specs.Readers.{Gives, repeated, too_deep_at};
-ghost use Rattle.ligo_syntax.specs.Reading.{token, type_decl_rule, value_decl_rule, decl_at, decls_at};
+ghost use Rattle.ligo_syntax.specs.Readers.{repeated, too_deep_at};
+ghost use Rattle.ligo_syntax.specs.Phrases.{Gives};
+ghost use Rattle.ligo_syntax.specs.TypeReading.{token};
+ghost use Rattle.ligo_syntax.specs.Reading.{type_decl_rule, value_decl_rule, decl_at, decls_at};
 
 use crate::definition_reader::read_definition;
 use crate::fault::{Expected, Stop};

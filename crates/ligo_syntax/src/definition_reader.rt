@@ -6,8 +6,10 @@ ghost use Rattle.ligo_syntax.specs.declared.fault.Expected.TheVariants as expect
 ghost use Rattle.ligo_syntax.specs.Classes.{name_kinds, definition_firsts};
 ghost use Rattle.ligo_syntax.specs.Kinds.{has, next};
 ghost use Rattle.ligo_syntax.specs.ProgramTrees.{first_place};
-ghost use Rattle.ligo_syntax.specs.Readers.{Gives, key, more_of, optional, repeated, too_deep_at};
-ghost use Rattle.ligo_syntax.specs.Reading.{token, read_type, type_field_rule, type_case_rule, record_type_rule, variant_type_rule, definition_at};
+ghost use Rattle.ligo_syntax.specs.Readers.{repeated, too_deep_at};
+ghost use Rattle.ligo_syntax.specs.Phrases.{Gives, key, more_of, optional};
+ghost use Rattle.ligo_syntax.specs.TypeReading.{token, read_type};
+ghost use Rattle.ligo_syntax.specs.Reading.{type_field_rule, type_case_rule, record_type_rule, variant_type_rule, definition_at};
 
 use crate::fault::{Expected, Stop};
 use crate::leaf_reader::maybe;

@@ -2,7 +2,8 @@
 
 ghost use Rattle.std.specs.Prelude.{◌≡◌, ◌∷◌, [], ◌<◌, ◌≤◌, ◌+◌, ◌-◌, ◌^◌, max, IfOk, IsTrue, None, Some};
 ghost use Rattle.ligo_syntax.specs.Depth.{deepest, if_there, type_depth, expr_depth, arm_depth};
-ghost use Rattle.ligo_syntax.specs.Trees.{paren_expr, list_expr, applied, negated, maybe_binary, operator_of, tuple_expr, if_expr, let_expr, match_expr};
+ghost use Rattle.ligo_syntax.specs.AtomTrees.{paren_expr, list_expr};
+ghost use Rattle.ligo_syntax.specs.ExprTrees.{applied, negated, maybe_binary, operator_of, tuple_expr, if_expr, let_expr, match_expr};
 
 use crate::expr::{Arm, Expr, ExprForm, Operator};
 use crate::expr_depths::{deepest_arm, deepest_expr, depth_of_expr, depth_of_type};

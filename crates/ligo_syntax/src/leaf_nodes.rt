@@ -2,7 +2,9 @@
 
 ghost use Rattle.std.specs.Prelude.{◌≡◌, ◌<◌, ◌-◌, ◌^◌, pos, IfOk, None, Some};
 ghost use Rattle.ligo_tokens.specs.declared.token.Kind.TheVariants as kind;
-ghost use Rattle.ligo_syntax.specs.Trees.{said_number, literal_of, leaf_expr, dotted, upper_expr, expr_node};
+ghost use Rattle.ligo_syntax.specs.Said.{said_number, literal_of};
+ghost use Rattle.ligo_syntax.specs.AtomTrees.{leaf_expr, dotted, upper_expr};
+ghost use Rattle.ligo_syntax.specs.TreeNodes.{expr_node};
 
 use crate::expr::{Expr, ExprForm, Literal};
 use crate::tokens::{name_of, word_of};

@@ -7,9 +7,12 @@ ghost use Rattle.ligo_syntax.specs.Classes.{atom_firsts, expr_firsts, leaf_kinds
 ghost use Rattle.ligo_syntax.specs.Depth.{expr_depth};
 ghost use Rattle.ligo_syntax.specs.Kinds.{has, next};
 ghost use Rattle.ligo_syntax.specs.Levels.{form_of};
-ghost use Rattle.ligo_syntax.specs.Readers.{Gives, key, links, made, one_of, optional, too_deep_at};
-ghost use Rattle.ligo_syntax.specs.Reading.{token, firsts_of, upper_link_at, upper_rule, form_at, arm_at};
-ghost use Rattle.ligo_syntax.specs.Trees.{dotted, leaf_expr, link_depth};
+ghost use Rattle.ligo_syntax.specs.Readers.{links, made, one_of, too_deep_at};
+ghost use Rattle.ligo_syntax.specs.Phrases.{Gives, key, optional};
+ghost use Rattle.ligo_syntax.specs.TypeReading.{token};
+ghost use Rattle.ligo_syntax.specs.AtomReading.{upper_link_at, upper_rule};
+ghost use Rattle.ligo_syntax.specs.ExprReading.{firsts_of, form_at, arm_at};
+ghost use Rattle.ligo_syntax.specs.AtomTrees.{dotted, leaf_expr, link_depth};
 
 use crate::expr::Expr;
 use crate::fault::{Expected, Stop};

@@ -3,11 +3,14 @@
 ghost use Rattle.std.specs.Prelude.{◌≡◌, ◌∷◌, [], ◌<◌, ◌≤◌, ◌+◌, ◌-◌, ◌^◌, IfOk, length, suc};
 ghost use Rattle.ligo_syntax.specs.Classes.{comparison_kinds};
 ghost use Rattle.ligo_syntax.specs.Depth.{expr_depth};
-ghost use Rattle.ligo_syntax.specs.Grammar.{Joined};
+ghost use Rattle.ligo_syntax.specs.AtomGrammar.{Joined};
 ghost use Rattle.ligo_syntax.specs.Levels.{form_of};
-ghost use Rattle.ligo_syntax.specs.Readers.{Gives, before, both, key, links, made, nothing, optional};
-ghost use Rattle.ligo_syntax.specs.Reading.{token, form_rule, disjunction_rule, conjunction_rule, comparison_rule, joined_rule, consed_rule, sum_rule, product_rule, unary_rule, form_at, arm_at};
-ghost use Rattle.ligo_syntax.specs.Trees.{binary, maybe_binary, operator_of};
+ghost use Rattle.ligo_syntax.specs.Readers.{before, both, links, made, nothing};
+ghost use Rattle.ligo_syntax.specs.Phrases.{Gives, key, optional};
+ghost use Rattle.ligo_syntax.specs.TypeReading.{token};
+ghost use Rattle.ligo_syntax.specs.OperatorReading.{disjunction_rule, conjunction_rule, comparison_rule, joined_rule, consed_rule, sum_rule, product_rule, unary_rule};
+ghost use Rattle.ligo_syntax.specs.ExprReading.{form_rule, form_at, arm_at};
+ghost use Rattle.ligo_syntax.specs.ExprTrees.{binary, maybe_binary, operator_of};
 
 use crate::atom_reader::{read_application, read_atom};
 use crate::condition_reader::read_condition;

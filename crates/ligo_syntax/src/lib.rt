@@ -1,7 +1,8 @@
 //! The grammar of CameLIGO: tokens to trees, with exact faults (docs/LANGUAGE.md, "Grammar").
 //!
-//! A program is declarations of types and values. `specs/Grammar.antt` has one definition for each
-//! production, made of the few signs of `specs/Rules.antt`; it knows no order of reading.
+//! A program is declarations of types and values. `specs/Grammar.antt` and the files that it names have
+//! one definition for each production, made of the few signs of `specs/Rules.antt`; they know no order
+//! of reading.
 //!
 //! - `parser`: bytes to programs, or the fault.
 //! - `program`, `expr`, `pattern`, `type_expr`: the tree, each node with its offset. Begin here.

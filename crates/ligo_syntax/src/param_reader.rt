@@ -2,7 +2,8 @@
 
 ghost use Rattle.std.specs.Prelude.{◌≡◌, ◌∷◌, [], ◌-◌, length};
 ghost use Rattle.ligo_tokens.specs.declared.token.Kind.TheVariants as kind;
-ghost use Rattle.ligo_syntax.specs.Readers.{Gives, repeated};
+ghost use Rattle.ligo_syntax.specs.Readers.{repeated};
+ghost use Rattle.ligo_syntax.specs.Phrases.{Gives};
 ghost use Rattle.ligo_syntax.specs.Reading.{param_at};
 
 use crate::fault::{Expected, Stop};

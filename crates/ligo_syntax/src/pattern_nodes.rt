@@ -2,7 +2,8 @@
 
 ghost use Rattle.std.specs.Prelude.{◌≡◌, ◌<◌, ◌≤◌, ◌+◌, ◌-◌, ◌^◌, max, IfOk};
 ghost use Rattle.ligo_syntax.specs.Depth.{deepest, pattern_depth};
-ghost use Rattle.ligo_syntax.specs.Trees.{pattern_node, bracket_pattern, leaf_pattern, tuple_pattern};
+ghost use Rattle.ligo_syntax.specs.TreeNodes.{pattern_node};
+ghost use Rattle.ligo_syntax.specs.TypeTrees.{bracket_pattern, leaf_pattern, tuple_pattern};
 
 use crate::lists::listed;
 use crate::pattern::{Pattern, PatternForm};

@@ -5,9 +5,10 @@ ghost use Rattle.ligo_tokens.specs.declared.token.Kind.TheVariants as kind;
 ghost use Rattle.ligo_syntax.specs.declared.fault.Expected.TheVariants as expected;
 ghost use Rattle.ligo_syntax.specs.Classes.{name_kinds, pattern_firsts};
 ghost use Rattle.ligo_syntax.specs.Depth.{deepest, pattern_depth};
-ghost use Rattle.ligo_syntax.specs.Readers.{Gives, key, repeated, one_of, too_deep_at};
+ghost use Rattle.ligo_syntax.specs.Readers.{repeated, one_of, too_deep_at};
+ghost use Rattle.ligo_syntax.specs.Phrases.{Gives, key};
 ghost use Rattle.ligo_syntax.specs.Kinds.{has, next};
-ghost use Rattle.ligo_syntax.specs.Reading.{pattern_rule, pattern_at, Several, Single};
+ghost use Rattle.ligo_syntax.specs.TypeReading.{pattern_rule, pattern_at, Several, Single};
 
 use crate::fault::{Expected, Stop};
 use crate::pattern::Pattern;

@@ -5,7 +5,7 @@ ghost use Rattle.micheline_text.specs.Told.{AnswersUnlessFull};
 ghost use Rattle.ligo_syntax.specs.declared.fault.Stop.TheVariants as stop;
 ghost use Rattle.ligo_syntax.specs.Faults.{place_of, smaller, least_says};
 ghost use Rattle.ligo_syntax.specs.Kinds.{next};
-ghost use Rattle.ligo_syntax.specs.Readers.{stopped};
+ghost use Rattle.ligo_syntax.specs.Phrases.{stopped};
 ghost use Rattle.ligo_syntax.specs.Verdict.{most_deep, decls_of, goes_past, kind_at, fault_of, verdict, told_fault};
 
 use crate::decl_reader::read_decls;

@@ -3,8 +3,9 @@
 ghost use Rattle.std.specs.Prelude.{◌≡◌, IfOk};
 ghost use Rattle.ligo_syntax.specs.Classes.{name_kinds};
 ghost use Rattle.ligo_syntax.specs.Kinds.{code, next, has, sort};
-ghost use Rattle.ligo_syntax.specs.Readers.{Gives, one_of, too_deep_at};
-ghost use Rattle.ligo_syntax.specs.Trees.{word_of, name_of, said_number};
+ghost use Rattle.ligo_syntax.specs.Readers.{one_of, too_deep_at};
+ghost use Rattle.ligo_syntax.specs.Phrases.{Gives};
+ghost use Rattle.ligo_syntax.specs.Said.{word_of, name_of, said_number};
 
 use crate::fault::{Expected, Stop};
 use crate::name::Name;

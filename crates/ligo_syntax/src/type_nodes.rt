@@ -2,7 +2,8 @@
 
 ghost use Rattle.std.specs.Prelude.{◌≡◌, ◌∷◌, [], ◌<◌, ◌≤◌, ◌+◌, ◌-◌, ◌^◌, max, IfOk, None, Some};
 ghost use Rattle.ligo_syntax.specs.Depth.{deepest, type_depth};
-ghost use Rattle.ligo_syntax.specs.Trees.{type_node, bracket_type, postfixed, tuple_type, type_name};
+ghost use Rattle.ligo_syntax.specs.TreeNodes.{type_node};
+ghost use Rattle.ligo_syntax.specs.TypeTrees.{bracket_type, postfixed, tuple_type, type_name};
 
 use crate::lists::listed;
 use crate::room::greater;

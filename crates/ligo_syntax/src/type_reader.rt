@@ -5,9 +5,10 @@ ghost use Rattle.ligo_tokens.specs.declared.token.Kind.TheVariants as kind;
 ghost use Rattle.ligo_syntax.specs.declared.fault.Expected.TheVariants as expected;
 ghost use Rattle.ligo_syntax.specs.Classes.{postfix_kinds, type_firsts};
 ghost use Rattle.ligo_syntax.specs.Depth.{deepest, if_there, type_depth};
-ghost use Rattle.ligo_syntax.specs.Readers.{Gives, links, key, optional, repeated, too_deep_at};
-ghost use Rattle.ligo_syntax.specs.Reading.{token, bracket_type_rule, base_type_rule, post_type_rule, type_at, read_type, Tuple, Post};
-ghost use Rattle.ligo_syntax.specs.Trees.{postfixed};
+ghost use Rattle.ligo_syntax.specs.Readers.{links, repeated, too_deep_at};
+ghost use Rattle.ligo_syntax.specs.Phrases.{Gives, key, optional};
+ghost use Rattle.ligo_syntax.specs.TypeReading.{token, bracket_type_rule, base_type_rule, post_type_rule, type_at, read_type, Tuple, Post};
+ghost use Rattle.ligo_syntax.specs.TypeTrees.{postfixed};
 
 use crate::fault::{Expected, Stop};
 use crate::tokens::{at, name_token, token, too_deep};

@@ -3,9 +3,10 @@
 ghost use Rattle.std.specs.Prelude.{◌≡◌, ◌∷◌, [], ◌<◌, ◌≤◌, ◌+◌, ◌-◌, ◌^◌, IfOk};
 ghost use Rattle.ligo_tokens.specs.declared.token.Kind.TheVariants as kind;
 ghost use Rattle.ligo_syntax.specs.Depth.{deepest, arm_depth};
-ghost use Rattle.ligo_syntax.specs.Grammar.{Part, Whole};
-ghost use Rattle.ligo_syntax.specs.Readers.{Gives, key, repeated};
-ghost use Rattle.ligo_syntax.specs.Reading.{arm_rule, form_rule, let_rule, match_rule, form_at, arm_at};
+ghost use Rattle.ligo_syntax.specs.AtomGrammar.{Part, Whole};
+ghost use Rattle.ligo_syntax.specs.Readers.{repeated};
+ghost use Rattle.ligo_syntax.specs.Phrases.{Gives, key};
+ghost use Rattle.ligo_syntax.specs.ExprReading.{arm_rule, form_rule, let_rule, match_rule, form_at, arm_at};
 
 use crate::arm_reader::{no_arm_depth, read_arm_pattern};
 use crate::condition_reader::{read_condition, read_tuple};

@@ -2,11 +2,14 @@ use Rattle.std.proofs.Common.{rules, ◌≡◌, ◌∷◌, [], ◌-◌, suc, len
 use Rattle.ligo_tokens.specs.declared.token.Kind.TheVariants as kind
 use Rattle.ligo_syntax.specs.Classes.{atom_firsts, expr_firsts, name_kinds}
 use Rattle.ligo_syntax.specs.Depth.{expr_depth, field_depth, arm_depth}
-use Rattle.ligo_syntax.specs.Grammar.{Atom, Condition, Whole}
+use Rattle.ligo_syntax.specs.AtomGrammar.{Atom, Condition, Whole}
 use Rattle.ligo_syntax.specs.Levels.{form_of}
-use Rattle.ligo_syntax.specs.Readers.{key, both, links, repeated, more_of}
-use Rattle.ligo_syntax.specs.Reading.{token, field_rule, form_at, arm_at}
-use Rattle.ligo_syntax.specs.Trees.{binary}
+use Rattle.ligo_syntax.specs.Readers.{both, links, repeated}
+use Rattle.ligo_syntax.specs.Phrases.{key, more_of}
+use Rattle.ligo_syntax.specs.TypeReading.{token}
+use Rattle.ligo_syntax.specs.AtomReading.{field_rule}
+use Rattle.ligo_syntax.specs.ExprReading.{form_at, arm_at}
+use Rattle.ligo_syntax.specs.ExprTrees.{binary}
 use Rattle.ligo_syntax.proofs.Turns.{both_is, fails_at, fails_key, goes_on, goes_on_key, head_fails, is_below, is_full, link_on, links_fail, links_full, links_stop, list_ends, list_fails, list_on, list_stops, second_fails, stops_at, within_push}
 use Rattle.ligo_syntax.proofs.LevelTurns.{arm_is}
 use Rattle.ligo_syntax.proofs.+reading_exprs.Goals as goal

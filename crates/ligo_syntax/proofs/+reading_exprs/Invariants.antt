@@ -2,11 +2,14 @@ use Rattle.std.proofs.Common.{◌≡◌, ◌∷◌, [], ◌+◌, ◌-◌, ◌*�
 use Rattle.ligo_tokens.specs.declared.token.Kind.TheVariants as kind
 use Rattle.ligo_syntax.specs.Classes.{atom_firsts, expr_firsts, name_kinds}
 use Rattle.ligo_syntax.specs.Depth.{deepest, expr_depth, field_depth, arm_depth}
-use Rattle.ligo_syntax.specs.Grammar.{Atom, Condition, Whole}
+use Rattle.ligo_syntax.specs.AtomGrammar.{Atom, Condition, Whole}
 use Rattle.ligo_syntax.specs.Levels.{form_of}
-use Rattle.ligo_syntax.specs.Readers.{loop, key, both, links, semicolons}
-use Rattle.ligo_syntax.specs.Reading.{token, field_rule, form_at, arm_at}
-use Rattle.ligo_syntax.specs.Trees.{binary}
+use Rattle.ligo_syntax.specs.Readers.{loop, both, links}
+use Rattle.ligo_syntax.specs.Phrases.{key, semicolons}
+use Rattle.ligo_syntax.specs.TypeReading.{token}
+use Rattle.ligo_syntax.specs.AtomReading.{field_rule}
+use Rattle.ligo_syntax.specs.ExprReading.{form_at, arm_at}
+use Rattle.ligo_syntax.specs.ExprTrees.{binary}
 use Rattle.ligo_syntax.proofs.Turns.{with_front}
 use Rattle.ligo_syntax.proofs.+reading_exprs.Given as goal
 

@@ -2,7 +2,7 @@ use Rattle.std.proofs.Common.{◌≡◌, true, sym, subst, ◌∙◌, arith}
 use Rattle.ligo_syntax.specs.Classes.{attribute_kinds}
 use Rattle.ligo_syntax.specs.Kinds.{Tokens, next, has}
 use Rattle.ligo_syntax.specs.Readers.{repeated}
-use Rattle.ligo_syntax.specs.Reading.{token}
+use Rattle.ligo_syntax.specs.TypeReading.{token}
 use Rattle.ligo_syntax.proofs.Marks.{mark_on, rest_whole}
 use Rattle.ligo_syntax.proofs.decl_reader.count_marks.Goals as goal
 

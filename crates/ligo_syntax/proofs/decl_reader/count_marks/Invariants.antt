@@ -1,7 +1,7 @@
 use Rattle.std.proofs.Common.{◌≡◌, ◌≤◌, ◌-◌, length, take, drop}
 use Rattle.ligo_syntax.specs.Classes.{attribute_kinds}
 use Rattle.ligo_syntax.specs.Readers.{loop}
-use Rattle.ligo_syntax.specs.Reading.{token}
+use Rattle.ligo_syntax.specs.TypeReading.{token}
 use Rattle.ligo_syntax.proofs.Turns.{with_front}
 use Rattle.ligo_syntax.proofs.decl_reader.count_marks.Given as goal
 

@@ -1,6 +1,7 @@
 use Rattle.std.proofs.Common.{rules, ◌∷◌, [], ◌-◌, length, sym, ◌∙◌}
 use Rattle.ligo_tokens.specs.declared.token.Kind.TheVariants as kind
-use Rattle.ligo_syntax.specs.Readers.{key, repeated}
+use Rattle.ligo_syntax.specs.Readers.{repeated}
+use Rattle.ligo_syntax.specs.Phrases.{key}
 use Rattle.ligo_syntax.specs.Reading.{type_case_rule}
 use Rattle.ligo_syntax.proofs.Turns.{goes_on_key, stops_at, fails_key}
 use Rattle.ligo_syntax.proofs.definition_reader.more_cases.Goals as goal

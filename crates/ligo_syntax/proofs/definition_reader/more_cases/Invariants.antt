@@ -1,6 +1,7 @@
 use Rattle.std.proofs.Common.{◌≡◌, ◌∷◌, [], ◌-◌, length}
 use Rattle.ligo_tokens.specs.declared.token.Kind.TheVariants as kind
-use Rattle.ligo_syntax.specs.Readers.{loop, key}
+use Rattle.ligo_syntax.specs.Readers.{loop}
+use Rattle.ligo_syntax.specs.Phrases.{key}
 use Rattle.ligo_syntax.specs.Reading.{type_case_rule}
 use Rattle.ligo_syntax.proofs.Turns.{with_front}
 use Rattle.ligo_syntax.proofs.definition_reader.more_cases.Given as goal

@@ -1,6 +1,6 @@
 use Rattle.std.proofs.Common.{rules, ◌-◌, length, sym, ◌∙◌}
 use Rattle.ligo_syntax.specs.Classes.{name_kinds}
-use Rattle.ligo_syntax.specs.Readers.{more_of}
+use Rattle.ligo_syntax.specs.Phrases.{more_of}
 use Rattle.ligo_syntax.specs.Reading.{type_field_rule}
 use Rattle.ligo_syntax.proofs.Turns.{list_on, list_stops, list_ends, list_fails}
 use Rattle.ligo_syntax.proofs.definition_reader.more_fields.Goals as goal

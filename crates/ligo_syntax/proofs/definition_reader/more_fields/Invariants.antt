@@ -1,6 +1,6 @@
 use Rattle.std.proofs.Common.{◌≡◌, ◌-◌, length}
 use Rattle.ligo_syntax.specs.Classes.{name_kinds}
-use Rattle.ligo_syntax.specs.Readers.{semicolons}
+use Rattle.ligo_syntax.specs.Phrases.{semicolons}
 use Rattle.ligo_syntax.specs.Reading.{type_field_rule}
 use Rattle.ligo_syntax.proofs.Turns.{with_front}
 use Rattle.ligo_syntax.proofs.definition_reader.more_fields.Given as goal

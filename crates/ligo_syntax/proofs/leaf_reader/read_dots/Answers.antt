@@ -2,9 +2,10 @@ use Rattle.std.proofs.Common.{rules, ◌∷◌, [], ◌-◌, length, sym, ◌∙
 use Rattle.ligo_tokens.specs.declared.token.Kind.TheVariants as kind
 use Rattle.ligo_syntax.specs.Classes.{link_kinds}
 use Rattle.ligo_syntax.specs.Depth.{expr_depth}
-use Rattle.ligo_syntax.specs.Readers.{key, links}
-use Rattle.ligo_syntax.specs.Reading.{token}
-use Rattle.ligo_syntax.specs.Trees.{dotted}
+use Rattle.ligo_syntax.specs.Readers.{links}
+use Rattle.ligo_syntax.specs.Phrases.{key}
+use Rattle.ligo_syntax.specs.TypeReading.{token}
+use Rattle.ligo_syntax.specs.AtomTrees.{dotted}
 use Rattle.ligo_syntax.proofs.Turns.{link_on, links_fail, links_full, links_stop, is_below, is_full}
 use Rattle.ligo_syntax.proofs.leaf_reader.read_dots.Goals as goal
 

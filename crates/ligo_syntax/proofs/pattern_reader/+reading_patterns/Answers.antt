@@ -1,8 +1,9 @@
 use Rattle.std.proofs.Common.{suc, arith, rules, ◌≡◌, ◌∷◌, [], ◌-◌, length, sym, ◌∙◌}
 use Rattle.ligo_tokens.specs.declared.token.Kind.TheVariants as kind
 use Rattle.ligo_syntax.specs.Depth.{pattern_depth}
-use Rattle.ligo_syntax.specs.Readers.{key, repeated}
-use Rattle.ligo_syntax.specs.Reading.{pattern_at, Single}
+use Rattle.ligo_syntax.specs.Readers.{repeated}
+use Rattle.ligo_syntax.specs.Phrases.{key}
+use Rattle.ligo_syntax.specs.TypeReading.{pattern_at, Single}
 use Rattle.ligo_syntax.proofs.LevelTurns.{pattern_fails}
 use Rattle.ligo_syntax.proofs.Turns.{goes_on_key, fails_key, within_push}
 use Rattle.ligo_syntax.proofs.pattern_reader.+reading_patterns.Goals as goal

@@ -1,8 +1,9 @@
 use Rattle.std.proofs.Common.{◌≡◌, ◌∷◌, [], ◌+◌, ◌-◌, ◌*◌, ◌≤◌, length}
 use Rattle.ligo_tokens.specs.declared.token.Kind.TheVariants as kind
 use Rattle.ligo_syntax.specs.Depth.{deepest, pattern_depth}
-use Rattle.ligo_syntax.specs.Readers.{loop, key}
-use Rattle.ligo_syntax.specs.Reading.{pattern_at, Single}
+use Rattle.ligo_syntax.specs.Readers.{loop}
+use Rattle.ligo_syntax.specs.Phrases.{key}
+use Rattle.ligo_syntax.specs.TypeReading.{pattern_at, Single}
 use Rattle.ligo_syntax.proofs.Turns.{with_front}
 use Rattle.ligo_syntax.proofs.pattern_reader.+reading_patterns.Given as goal
 

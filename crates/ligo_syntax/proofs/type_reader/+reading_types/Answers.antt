@@ -1,8 +1,9 @@
 use Rattle.std.proofs.Common.{rules, ◌∷◌, [], length, sym, ◌∙◌}
 use Rattle.ligo_tokens.specs.declared.token.Kind.TheVariants as kind
 use Rattle.ligo_syntax.specs.Depth.{type_depth}
-use Rattle.ligo_syntax.specs.Readers.{key, repeated}
-use Rattle.ligo_syntax.specs.Reading.{type_at, Post}
+use Rattle.ligo_syntax.specs.Readers.{repeated}
+use Rattle.ligo_syntax.specs.Phrases.{key}
+use Rattle.ligo_syntax.specs.TypeReading.{type_at, Post}
 use Rattle.ligo_syntax.proofs.Turns.{goes_on_key, fails_key, within_push}
 use Rattle.ligo_syntax.proofs.type_reader.+reading_types.Goals as goal
 

@@ -1,8 +1,9 @@
 use Rattle.std.proofs.Common.{◌≡◌, ◌∷◌, [], ◌+◌, ◌-◌, ◌*◌, ◌≤◌, length}
 use Rattle.ligo_tokens.specs.declared.token.Kind.TheVariants as kind
 use Rattle.ligo_syntax.specs.Depth.{deepest, type_depth}
-use Rattle.ligo_syntax.specs.Readers.{loop, key}
-use Rattle.ligo_syntax.specs.Reading.{type_at, Post}
+use Rattle.ligo_syntax.specs.Readers.{loop}
+use Rattle.ligo_syntax.specs.Phrases.{key}
+use Rattle.ligo_syntax.specs.TypeReading.{type_at, Post}
 use Rattle.ligo_syntax.proofs.Turns.{with_front}
 use Rattle.ligo_syntax.proofs.type_reader.+reading_types.Given as goal
 

@@ -1,8 +1,8 @@
 use Rattle.std.proofs.Common.{length, sym, ◌∙◌, arith}
 use Rattle.ligo_syntax.specs.Classes.{postfix_kinds}
 use Rattle.ligo_syntax.specs.Depth.{type_depth}
-use Rattle.ligo_syntax.specs.Reading.{token}
-use Rattle.ligo_syntax.specs.Trees.{postfixed}
+use Rattle.ligo_syntax.specs.TypeReading.{token}
+use Rattle.ligo_syntax.specs.TypeTrees.{postfixed}
 use Rattle.ligo_syntax.proofs.Turns.{link_on, is_below}
 use Rattle.ligo_syntax.proofs.type_reader.read_words.Goals as goal
 
