@@ -32,3 +32,10 @@ pub mod Splits
 pub mod Answered
 pub mod Verdicts
 pub mod Told
+pub mod Carried
+pub mod CarriedTypes
+pub mod CarriedExprs
+pub mod Continued
+pub mod Greed
+pub mod GreedTrees
+pub mod GreedTexts

@@ -14,6 +14,7 @@ pub mod AtomGrammar
 pub mod OperatorGrammar
 pub mod ExprGrammar
 pub mod Grammar
+pub mod FreeGrammar
 pub mod Faults
 -- what functions inside promise each other
 pub mod Readers

@@ -2,6 +2,9 @@
 
 ghost use Rattle.std.specs.Prelude.{◌≡◌, ◌⊎◌, ℕ, List};
 ghost use Rattle.ligo_syntax.specs.Faults.{IsFaultOf, IsTextOf};
+ghost use Rattle.ligo_syntax.specs.FreeGrammar.{IsFreeText};
+ghost use Rattle.ligo_syntax.specs.Grammar.{IsLooseText};
+ghost use Rattle.ligo_syntax.specs.Kinds.{Tokens};
 ghost use Rattle.ligo_syntax.specs.declared.fault.Expected.TheVariants as expected;
 ghost use Rattle.ligo_syntax.specs.declared.fault.SyntaxFault.{SyntaxFault};
 ghost use Rattle.ligo_syntax.specs.declared.program.Program.{Program};
@@ -26,3 +29,10 @@ pub fn faults_have_one_place()
 {
     bytes_are_laid_out_in_one_way();
 }
+
+/// Taking as much as it can loses no text: without it a text has the same tree, and maybe others.
+pub fn greed_loses_no_text()
+    ensures kept { (ts : Tokens) (p : Program) → IsLooseText ts p → IsFreeText ts p }
+    ensures none_lost { (ts : Tokens) (p : Program) → IsFreeText ts p →
+        (q : Program) × IsLooseText ts q }
+{}

@@ -6,7 +6,7 @@
 //!
 //! - `parser`: bytes to programs, or the fault.
 //! - `program`, `expr`, `pattern`, `type_expr`: the tree, each node with its offset. Begin here.
-//! - `laws`: a text has one tree, and its fault one place.
+//! - `laws`: a text has one tree, its fault one place, and greed loses no text.
 //! - `fault`: why bytes are no program, and where that is told.
 //! - `tokens`: what stands in front.
 //! - `program_reader`, `decl_reader`, `definition_reader`, `param_reader`: one function for each rule,
@@ -52,7 +52,7 @@ mod whole_reader;
 
 pub use expr::{Arm, ArmForm, ArmPattern, Expr, ExprForm, Literal, Operator, ValueField};
 pub use fault::{Expected, SyntaxFault, SyntaxRefusal};
-pub use laws::{faults_have_one_place, texts_have_one_tree};
+pub use laws::{faults_have_one_place, greed_loses_no_text, texts_have_one_tree};
 pub use name::Name;
 pub use parser::parse;
 pub use pattern::{Pattern, PatternForm};
