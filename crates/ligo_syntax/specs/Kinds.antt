@@ -70,9 +70,13 @@ code kind.Star = 51
 code kind.Slash = 52
 code kind.Faulty = 53
 
--- the same of a token; a numeral past its range is of no kind
+-- that of a numeral past its range, which is of no kind
+abbrev pub past_range : ℕ
+past_range = 64
+
+-- the same of a token
 abbrev pub sort_of : Kind → Option Says → ℕ
-sort_of k (Some says.Wide) = 64
+sort_of k (Some says.Wide) = past_range
 sort_of k said = code k
 
 -- the number of a token

@@ -10,7 +10,7 @@ use Rattle.ligo_syntax.specs.declared.fault.Expected.{Expected}
 use Rattle.ligo_syntax.specs.declared.fault.Expected.TheVariants as expected
 use Rattle.ligo_syntax.specs.declared.program.Decl.{Decl}
 use Rattle.ligo_syntax.specs.declared.program.Program.{Program}
-use Rattle.ligo_syntax.specs.Kinds.{Tokens, sort}
+use Rattle.ligo_syntax.specs.Kinds.{Tokens, past_range, sort}
 use Rattle.ligo_syntax.specs.Readers.{Read}
 use Rattle.ligo_syntax.specs.Reading.{decls_at}
 use Rattle.ligo_syntax.specs.ProgramTrees.{program_of}
@@ -40,7 +40,7 @@ goes_past (Err e) = true
 -- past it, that
 abbrev pub kind_at : Expected → Tokens → Tokens → Expected
 kind_at k front [] = k
-kind_at k front (t ∷ after) = cond (sort t == 64)
+kind_at k front (t ∷ after) = cond (sort t == past_range)
     (cond (goes_past (decls_of (front ++ smaller t ∷ []))) expected.NumberInRange k) k
 
 -- the fault, where this kind is wanted behind the tokens in front

@@ -18,7 +18,7 @@ use crate::expr::Expr;
 use crate::fault::{Expected, Stop};
 use crate::leaf_nodes::{constructor_expr, dotted, leaf_expr, linked_expr};
 use crate::level::Level;
-use crate::tokens::{at, name_token, token, too_deep};
+use crate::tokens::{at, at_name, name_token, token, too_deep};
 use ligo_tokens::{Kind, Token};
 use std::alloc::Global;
 
@@ -26,56 +26,28 @@ use std::alloc::Global;
 pub(crate) fn at_expr(tokens: &[Token]) -> bool
     ensures { result ≡ has expr_firsts (next tokens.now) }
 {
-    at(
-        &[
-            Kind::Let,
-            Kind::Match,
-            Kind::If,
-            Kind::Minus,
-            Kind::OpenParen,
-            Kind::OpenSquare,
-            Kind::OpenBrace,
-            Kind::Upper,
-            Kind::Int,
-            Kind::Nat,
-            Kind::Tez,
-            Kind::Bytes,
-            Kind::Text,
-            Kind::Name,
-            Kind::List,
-            Kind::Option,
-            Kind::Contract,
-            Kind::Map,
-            Kind::BigMap,
-        ],
-        tokens,
-    )
+    at(&[Kind::Let, Kind::Match, Kind::If, Kind::Minus], tokens) || at_atom(tokens)
 }
 
 /// Whether an atom begins here.
 pub(crate) fn at_atom(tokens: &[Token]) -> bool
     ensures { result ≡ has atom_firsts (next tokens.now) }
 {
-    at(
-        &[
-            Kind::OpenParen,
-            Kind::OpenSquare,
-            Kind::OpenBrace,
-            Kind::Upper,
-            Kind::Int,
-            Kind::Nat,
-            Kind::Tez,
-            Kind::Bytes,
-            Kind::Text,
-            Kind::Name,
-            Kind::List,
-            Kind::Option,
-            Kind::Contract,
-            Kind::Map,
-            Kind::BigMap,
-        ],
-        tokens,
-    )
+    let opening = [
+        Kind::OpenParen,
+        Kind::OpenSquare,
+        Kind::OpenBrace,
+        Kind::Upper,
+    ];
+    at(&opening, tokens) || at_leaf(tokens)
+}
+
+/// Whether a name or a literal stands here.
+fn at_leaf(tokens: &[Token]) -> bool
+    ensures { result ≡ has leaf_kinds (next tokens.now) }
+{
+    let literals = [Kind::Int, Kind::Nat, Kind::Tez, Kind::Bytes, Kind::Text];
+    at(&literals, tokens) || at_name(tokens)
 }
 
 /// Whether something of this level begins here.
@@ -84,9 +56,7 @@ fn at_level(level: Level, tokens: &[Token]) -> bool
 {
     match level {
         Level::Whole | Level::Part => at_expr(tokens),
-        Level::Condition => {
-            at(&[Kind::If], tokens) || at(&[Kind::Minus], tokens) || at_atom(tokens)
-        }
+        Level::Condition => at(&[Kind::If, Kind::Minus], tokens) || at_atom(tokens),
         Level::Application | Level::Atom => at_atom(tokens),
         Level::Disjunction
         | Level::Conjunction

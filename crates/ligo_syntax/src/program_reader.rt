@@ -11,7 +11,7 @@ ghost use Rattle.ligo_syntax.specs.Verdict.{most_deep, decls_of, goes_past, kind
 use crate::decl_reader::read_decls;
 use crate::fault::{Expected, Stop, SyntaxFault, SyntaxRefusal};
 use crate::program::{Decl, Program};
-use crate::tokens::next_sort;
+use crate::tokens::{PAST_RANGE, next_sort};
 use ligo_tokens::{Kind, Says, Token, tokens};
 use sqlite_items::{Boxed, Items};
 use std::alloc::{AllocError, Global};
@@ -107,7 +107,7 @@ fn kind_at(
     requires { front ≤ length tokens }
     ensures { IfOk result (λ k. k ≡ kind_at expected (take front tokens) (drop front tokens)) }
 {
-    if next_sort(&tokens.as_slice()[front..]) != 64 {
+    if next_sort(&tokens.as_slice()[front..]) != PAST_RANGE {
         return Ok(expected);
     }
     kind_of_numeral(alloc, expected, tokens, front)
@@ -121,7 +121,7 @@ fn kind_of_numeral(
     front: usize,
 ) -> Result<Expected, AllocError>
     requires within { front ≤ length tokens }
-    requires wide { next (drop front tokens) ≡ 64 }
+    requires wide { next (drop front tokens) ≡ PAST_RANGE }
     ensures { IfOk result (λ k. k ≡ kind_at expected (take front tokens) (drop front tokens)) }
 {
     let mut tokens = tokens;

@@ -14,6 +14,9 @@ use sqlite_items::Items;
 use std::alloc::{AllocError, Global};
 use value_core::Num;
 
+/// The number of a numeral past its range, which is of no kind.
+pub(crate) const PAST_RANGE: u8 = 64;
+
 /// The number of a kind.
 pub(crate) fn code_of(kind: Kind) -> u8
     ensures { result ≡ code kind }
@@ -75,13 +78,13 @@ pub(crate) fn code_of(kind: Kind) -> u8
     }
 }
 
-/// The number of a token: a numeral past its range is of no kind.
+/// The number of a token.
 fn sort_of_token(token: &Token) -> u8
     ensures { result ≡ sort token.now }
 {
     if let Some(said) = &token.says {
         if let Says::Wide = said.get() {
-            return 64;
+            return PAST_RANGE;
         }
     }
     code_of(token.kind)
