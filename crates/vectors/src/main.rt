@@ -12,6 +12,7 @@
 //! - `typing`: scripts that may run, and the faults of others.
 //! - `apply`: data instructions on a stack.
 //! - `run`, `ledger`: metered runs, and what answers their questions.
+//! - `parsing`: texts of CameLIGO, and the faults of others.
 //! - `faults`: how a fault is answered.
 #![tactic(auto)]
 
@@ -20,6 +21,7 @@ mod apply;
 mod faults;
 mod ledger;
 mod nodes;
+mod parsing;
 mod run;
 mod scripts;
 #[cfg(test)]
@@ -42,6 +44,7 @@ fn answer_to(alloc: Global, line: &str) -> Result<Vec<u8>, AllocError> {
         Some((call, word)) if call == "nodes" => return nodes::answer(alloc, word),
         Some((call, words)) if is_of_scripts(call) => return scripts::answer(alloc, call, words),
         Some((call, word)) if call == "check" => return typing::answer(alloc, word),
+        Some((call, word)) if call == "parse" => return parsing::answer(alloc, word),
         Some((call, words)) if call == "apply" => return apply::answer(alloc, words),
         Some((call, words)) if call == "run" => return run::answer(alloc, words),
         Some((call, words)) => values::answer(alloc, call, words)?,
