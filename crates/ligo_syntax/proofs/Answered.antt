@@ -8,7 +8,6 @@ use Rattle.ligo_syntax.specs.declared.fault.Expected.{Expected}
 use Rattle.ligo_syntax.specs.declared.fault.Expected.TheVariants as expected
 use Rattle.ligo_syntax.specs.declared.program.Definition.TheVariants as definition
 use Rattle.ligo_syntax.specs.declared.program.Decl.{Decl}
-use Rattle.ligo_syntax.specs.declared.program.Program.{Program}
 use Rattle.ligo_syntax.specs.Kinds.{Tokens, Kinds}
 use Rattle.ligo_syntax.specs.Classes.{decl_firsts}
 use Rattle.ligo_syntax.specs.Rules.{Repeated}
@@ -17,7 +16,6 @@ use Rattle.ligo_syntax.specs.Depth.{decl_depth, deepest}
 use Rattle.ligo_syntax.specs.TypeTrees.{type_name, leaf_pattern}
 use Rattle.ligo_syntax.specs.AtomTrees.{leaf_expr}
 use Rattle.ligo_syntax.specs.ExprTrees.{cons_arm}
-use Rattle.ligo_syntax.specs.ProgramTrees.{program_of}
 use Rattle.ligo_syntax.specs.TypeGrammar.{IsType, IsPattern, PatternRule, ArmPatternRule}
 use Rattle.ligo_syntax.specs.AtomGrammar.{Whole, Atom}
 use Rattle.ligo_syntax.specs.ExprGrammar.{IsExpr}
@@ -64,11 +62,8 @@ laws d = decls_law Begins (λ t r. tt) (λ r. (a_name ∷ [], r, 1, definition.T
     (λ r. (a_number ∷ [], r, 1, Atom, leaf_expr a_number, refl, number_is_expression)) d
 
 -- a text has one tree
-pub one_text : (ts : Tokens) (p q : Program) → IsLooseText ts p → IsLooseText ts q → p ≡ q
-one_text ts p q r s =
-    let a = r.1 in
-    let b = s.1 in
-    a.2 ∙ ap program_of (one_tree Begins Decls (deepest decl_depth) decls_at decl_firsts true X Y laws refl refl ts (a.0) (b.0) r.0 s.0 (a.1) (b.1)) ∙ sym (b.2)
+pub one_text : (ts : Tokens) (ds es : List Decl) → IsLooseText ts ds → IsLooseText ts es → ds ≡ es
+one_text ts ds es r s = one_tree Begins Decls (deepest decl_depth) decls_at decl_firsts true X Y laws refl refl ts ds es r.0 s.0 (r.1) (s.1)
 
 -- what goes on also does so from earlier on
 pub shorter_goes : (front : Tokens) (t : Token) (m : Tokens) → GoesOn (front ++ t ∷ m) → GoesOn (front ++ t ∷ [])
@@ -104,11 +99,11 @@ module _ (d : ℕ) where
       whole = s.whole;
       left = s.left;
       stuck = stuck s.rest refl;
-      stands = (s.more, program_of s.value, subst (Begins k) (append-nil s.more) (s.stands []), (suc (suc (beyond d)), (s.value, fault_goes_on Begins Decls (deepest decl_depth) decls_at decl_firsts true X Y laws refl refl d ts k n s, refl)));
+      stands = (s.more, s.value, subst (Begins k) (append-nil s.more) (s.stands []), (suc (suc (beyond d)), fault_goes_on Begins Decls (deepest decl_depth) decls_at decl_firsts true X Y laws refl refl d ts k n s));
     } where
       stuck : (after : Tokens) → s.rest ≡ after → IsStuck s.used after
-      stuck [] w = λ p r. not_ended Begins Decls (deepest decl_depth) decls_at decl_firsts true X Y laws refl refl d ts k n s w r.0 ((r.1).0) ((r.1).1)
-      stuck (t ∷ after) w = λ g. stuck_at Begins Decls (deepest decl_depth) decls_at decl_firsts true X Y laws refl refl d ts k n s t after g.0 w (g.2).0 (((g.2).1).0) (((g.2).1).1)
+      stuck [] w = λ ds r. not_ended Begins Decls (deepest decl_depth) decls_at decl_firsts true X Y laws refl refl d ts k n s w r.0 ds (r.1)
+      stuck (t ∷ after) w = λ g. stuck_at Begins Decls (deepest decl_depth) decls_at decl_firsts true X Y laws refl refl d ts k n s t after g.0 w (g.2).0 (g.1) ((g.2).1)
 
   left_over : (ts : Tokens) (a : List Decl) (t : Token) (after : Tokens) → decls_at (suc (suc d)) ts ≡ Ok (a, t ∷ after) → Faulty ts expected.Token (length (t ∷ after))
   left_over ts a t after h = faulty (stays_of Begins Decls (deepest decl_depth) decls_at decl_firsts true X Y laws refl refl d ts a (t ∷ after) h) where
@@ -118,8 +113,8 @@ module _ (d : ℕ) where
       after = t ∷ after;
       whole = s.whole;
       left = refl;
-      stuck = λ g. stuck_behind Begins Decls (deepest decl_depth) decls_at decl_firsts true X Y laws refl refl d ts a (t ∷ after) s t after g.0 refl (g.2).0 (((g.2).1).0) (((g.2).1).1);
-      stands = ([], program_of a, tt, (suc (suc d), (a, ends_there Begins Decls (deepest decl_depth) decls_at decl_firsts true X Y laws refl refl d ts a (t ∷ after) s, refl)));
+      stuck = λ g. stuck_behind Begins Decls (deepest decl_depth) decls_at decl_firsts true X Y laws refl refl d ts a (t ∷ after) s t after g.0 refl (g.2).0 (g.1) ((g.2).1);
+      stands = ([], a, tt, (suc (suc d), ends_there Begins Decls (deepest decl_depth) decls_at decl_firsts true X Y laws refl refl d ts a (t ∷ after) s));
     }
 
   sunk : (ts : Tokens) (n : ℕ) → decls_at (suc (suc d)) ts ≡ Err (stop.TooDeep n) → Sunk d ts n
@@ -131,7 +126,7 @@ module _ (d : ℕ) where
       after = s.after;
       whole = s.whole;
       left = s.left;
-      goes = (s.more, program_of s.value, (suc (suc (beyond d)), (s.value, sunk_goes_on Begins Decls (deepest decl_depth) decls_at decl_firsts true X Y laws refl refl d ts n s, refl)));
+      goes = (s.more, s.value, (suc (suc (beyond d)), sunk_goes_on Begins Decls (deepest decl_depth) decls_at decl_firsts true X Y laws refl refl d ts n s));
       deep = sunk_at Begins Decls (deepest decl_depth) decls_at decl_firsts true X Y laws refl refl d ts n s;
       again = s.again;
     }

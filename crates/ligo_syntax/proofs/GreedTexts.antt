@@ -1,13 +1,13 @@
 -- Greed loses no text: every text of the grammar without it is one of the grammar with it.
-use Rattle.std.proofs.Common.{ℕ, zero, suc, [], ◌∷◌, length, Some, None, refl, arith}
+use Rattle.std.proofs.Common.{ℕ, zero, suc, List, [], ◌∷◌, length, Some, None, refl, arith}
 use Rattle.ligo_tokens.specs.declared.token.Kind.TheVariants as kind
 use Rattle.ligo_syntax.specs.declared.program.Definition.TheVariants as definition
-use Rattle.ligo_syntax.specs.declared.program.Program.{Program}
+use Rattle.ligo_syntax.specs.declared.program.Decl.{Decl}
 use Rattle.ligo_syntax.specs.Kinds.{Tokens, Kinds}
 use Rattle.ligo_syntax.specs.Classes.{name_kinds, attribute_kinds}
 use Rattle.ligo_syntax.specs.Rules.{OneOf, Both, Made, AsMany, Key, From, Optional, free}
 use Rattle.ligo_syntax.specs.ExprTrees.{tuple_expr, if_expr, arm_of, match_expr, let_expr}
-use Rattle.ligo_syntax.specs.ProgramTrees.{type_field, type_case, record_type, variant_type, param_of, type_decl, value_decl, program_of}
+use Rattle.ligo_syntax.specs.ProgramTrees.{type_field, type_case, record_type, variant_type, param_of, type_decl, value_decl}
 use Rattle.ligo_syntax.specs.TypeGrammar.{IsType, PatternRule, IsPattern}
 use Rattle.ligo_syntax.specs.AtomGrammar.{Form, Whole, Part, Condition, Disjunction, Conjunction, Comparison, Joined, Consed, Sum, Product, Unary, Application, Atom}
 use Rattle.ligo_syntax.specs.ExprGrammar.{TupleRule, ArmRule, MatchRule, LetRule, IsExpr}
@@ -127,10 +127,10 @@ module _ (n m : ℕ) where
   })
 
   program_carried : Carried m closers (IsFreeProgram n) (IsProgram m)
-  program_carried = made_carried program_of (repeated_carried (either_carried type_decl_carried value_decl_carried) (repeated_before decl_opens refl))
+  program_carried = repeated_carried (either_carried type_decl_carried value_decl_carried) (repeated_before decl_opens refl)
 
-pub text_is_kept : (ts : Tokens) (p : Program) → IsFreeText ts p → (q : Program) × IsLooseText ts q
-text_is_kept ts p r =
+pub text_is_kept : (ts : Tokens) (ds : List Decl) → IsFreeText ts ds → (es : List Decl) × IsLooseText ts es
+text_is_kept ts ds r =
     let m = suc (length ts) in
-    let c = (program_carried r.0 m).carries ts p [] (omega arith) (r.1) refl in
+    let c = (program_carried r.0 m).carries ts ds [] (omega arith) (r.1) refl in
     (c.tree, (m, c.reads))

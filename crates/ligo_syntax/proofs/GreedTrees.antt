@@ -7,13 +7,13 @@ use Rattle.ligo_syntax.specs.declared.type_expr.TypeExpr.{TypeExpr}
 use Rattle.ligo_syntax.specs.declared.pattern.Pattern.{Pattern}
 use Rattle.ligo_syntax.specs.declared.expr.Expr.{Expr}
 use Rattle.ligo_syntax.specs.declared.expr.Operator.TheVariants as operator
-use Rattle.ligo_syntax.specs.declared.program.Program.{Program}
+use Rattle.ligo_syntax.specs.declared.program.Decl.{Decl}
 use Rattle.ligo_syntax.specs.Kinds.{Tokens, Kinds}
 use Rattle.ligo_syntax.specs.Classes.{name_kinds, leaf_kinds, link_kinds, product_kinds, sum_kinds, comparison_kinds, attribute_kinds}
 use Rattle.ligo_syntax.specs.Rules.{Rule, OneOf, Both, Made, Either, Repeated, AsMany, Key, From, Closed, Optional, IfItCan, Chain, Parted, Listed, greedy, free}
 use Rattle.ligo_syntax.specs.AtomTrees.{leaf_expr, dotted, upper_expr, paren_expr, list_expr, field_of, record_inside, with_inside, brace_expr}
 use Rattle.ligo_syntax.specs.ExprTrees.{applied, negated, binary, maybe_binary, tuple_expr, if_expr, arm_of, match_expr, let_expr}
-use Rattle.ligo_syntax.specs.ProgramTrees.{value_decl, program_of}
+use Rattle.ligo_syntax.specs.ProgramTrees.{value_decl}
 use Rattle.ligo_syntax.specs.TypeGrammar.{IsType, PatternRule, IsPattern, ArmPatternRule}
 use Rattle.ligo_syntax.specs.AtomGrammar.{Form, Whole, Part, Condition, Disjunction, Conjunction, Comparison, Joined, Consed, Sum, Product, Unary, Application, Atom, ParenRule, SquareRule, FieldRule, BraceRule, UpperRule, AtomRule, ApplicationRule}
 use Rattle.ligo_syntax.specs.OperatorGrammar.{UnaryRule, ProductRule, SumRule, ConsedRule, JoinedRule, ComparisonRule, ConjunctionRule, DisjunctionRule}
@@ -160,9 +160,9 @@ exprs_keep zero form = record { keeps = λ before a after r. absurd r }
 exprs_keep (suc n) form = form_keeps (IsType n) (IsPattern n) (PatternRule (IsPattern n)) (IsExpr n) (IsFreeExpr n) (exprs_keep n) form
 
 program_keeps : (n : ℕ) → Keeps (IsProgram n) (IsFreeProgram n)
-program_keeps n = made_keeps program_of (repeated_keeps (either_keeps (same (TypeDeclRule (IsType n))) (made_keeps value_decl (both_keeps (same (Repeated (OneOf attribute_kinds))) (both_keeps (same (OneOf (kind.Let ∷ [])))
+program_keeps n = repeated_keeps (either_keeps (same (TypeDeclRule (IsType n))) (made_keeps value_decl (both_keeps (same (Repeated (OneOf attribute_kinds))) (both_keeps (same (OneOf (kind.Let ∷ [])))
     (both_keeps (same (Optional (OneOf (kind.Rec ∷ [])))) (both_keeps (same (OneOf name_kinds)) (both_keeps (same (Repeated (ParamRule (IsType n) (IsPattern n))))
-    (both_keeps (same (Optional (Key kind.Colon (IsType n)))) (key_keeps kind.Equals (exprs_keep n Whole)))))))))))
+    (both_keeps (same (Optional (Key kind.Colon (IsType n)))) (key_keeps kind.Equals (exprs_keep n Whole))))))))))
 
-pub tree_is_kept : (ts : Tokens) (p : Program) → IsLooseText ts p → IsFreeText ts p
-tree_is_kept ts p r = (r.0, (program_keeps r.0).keeps ts p [] (r.1))
+pub tree_is_kept : (ts : Tokens) (ds : List Decl) → IsLooseText ts ds → IsFreeText ts ds
+tree_is_kept ts ds r = (r.0, (program_keeps r.0).keeps ts ds [] (r.1))

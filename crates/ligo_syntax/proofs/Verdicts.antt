@@ -43,11 +43,11 @@ is_most = refl
 read_alike : (ts : Tokens) → decls_of ts ≡ all_of (decls_at (suc (suc less_deep)) ts)
 read_alike ts = ap (λ m. all_of (decls_at m ts)) is_most
 
-text_is : (ts : Tokens) (ds : List Decl) → decls_of ts ≡ Ok ds → IsText ts (program_of ds)
+text_is : (ts : Tokens) (ds : List Decl) → decls_of ts ≡ Ok ds → IsText ts ds
 text_is ts ds h =
     let r = told_text less_deep ts ds (decls_at (suc (suc less_deep)) ts) refl (sym (read_alike ts) ∙ h) in
     let le = r.1 in
-    ((suc (suc less_deep), (ds, r.0, refl)), omega (arith, le, is_less))
+    ((suc (suc less_deep), r.0), omega (arith, le, is_less))
 
 fault_is : (ts : Tokens) (k : Expected) (n : ℕ) → decls_of ts ≡ Err (stop.Unexpected k n) → Faulty ts k n
 fault_is ts k n h = told_fault less_deep ts k n (decls_at (suc (suc less_deep)) ts) refl (sym (read_alike ts) ∙ h)
@@ -59,13 +59,13 @@ memory_is : (ts : Tokens) → decls_of ts ≡ Err stop.NoMemory → ⊥
 memory_is ts h = told_memory less_deep ts (decls_at (suc (suc less_deep)) ts) refl (sym (read_alike ts) ∙ h)
 
 -- a program is one deeper than its declarations
-bounded : (ds : List Decl) (p : Program) → p ≡ program_of ds → program_depth p ≤ 512 → deepest decl_depth ds ≤ suc (suc less_deep)
-bounded ds p e le =
-    let i : 1 + deepest decl_depth ds ≤ 512 = subst (λ (q : Program). program_depth q ≤ 512) e le in
+bounded : (ds : List Decl) → program_depth ds ≤ 512 → deepest decl_depth ds ≤ suc (suc less_deep)
+bounded ds le =
+    let i : 1 + deepest decl_depth ds ≤ 512 = le in
     omega (arith, i, is_less)
 
-pub text_read : (ts : Tokens) (p : Program) → IsText ts p → (ds : List Decl) × (decls_of ts ≡ Ok ds) × (p ≡ program_of ds)
-text_read ts p (r, le) = let a = r.1 in (a.0, read_alike ts ∙ told_only less_deep r.0 ts (a.0) (a.1) (bounded (a.0) p (a.2) le), a.2)
+pub text_read : (ts : Tokens) (ds : List Decl) → IsText ts ds → decls_of ts ≡ Ok ds
+text_read ts ds (r, le) = read_alike ts ∙ told_only less_deep r.0 ts ds (r.1) (bounded ds le)
 
 -- ---- numerals past their range
 
@@ -87,7 +87,7 @@ wide_sort t h = ap (λ said. sort_of t.kind said == 64) h
 
 -- reading goes past the last token exactly where a text goes on behind it
 past : (front : Tokens) (s : Token) (after : Tokens) → ((n : ℕ) → decls_of (front ++ after) ≡ Err (stop.TooDeep n) → ⊥) → (x : Result (List Decl) Stop) → decls_of (front ++ s ∷ []) ≡ x → goes_past x ≡ true → GoesOn (front ++ s ∷ [])
-past front s after fits (Ok ds) e h = ([], program_of ds, subst (λ l. IsLooseText l (program_of ds)) (sym (append-nil (front ++ s ∷ []))) (text_is (front ++ s ∷ []) ds e).0)
+past front s after fits (Ok ds) e h = ([], ds, subst (λ l. IsLooseText l ds) (sym (append-nil (front ++ s ∷ []))) (text_is (front ++ s ∷ []) ds e).0)
 past front s after fits (Err (stop.Unexpected k n)) e h = ended (fault_is (front ++ s ∷ []) k n e) where
   nothing_left : (after : Tokens) → n ≡ length after → after ≡ []
   nothing_left [] l = refl
@@ -187,11 +187,13 @@ told_place end ts f (Err (stop.TooDeep n)) e h = placed (depth_is ts n e) where
       let kinds : f.expected ≡ expected.TooDeep = ap (λ (s : SyntaxFault). s.expected) (sym is) in
       (g.front, g.token ∷ g.after, g.whole, at, subst (λ c. IsPlace c g.front (g.token ∷ g.after)) (sym kinds) (g.token, g.after, refl, g.goes, none_fits)) where
         none_fits : Fits (g.front ++ g.token ∷ []) → ⊥
-        none_fits x = let r = (x.2).0 in let a = r.1 in g.deep x.0 r.0 (a.0) (a.1) (bounded (a.0) x.1 (a.2) (x.2).1)
+        none_fits x = let r = (x.2).0 in g.deep x.0 r.0 (x.1) (r.1) (bounded (x.1) ((x.2).1))
 told_place end ts f (Err stop.NoMemory) e h = absurd (memory_is ts e)
 
-told_program : (end : ℕ) (ts : Tokens) (p : Program) (x : Result (List Decl) Stop) → decls_of ts ≡ x → verdict_of end ts x ≡ Ok p → IsText ts p
-told_program end ts p (Ok ds) e h = let i : program_of ds ≡ p = cc in subst (IsText ts) i (text_is ts ds e)
+told_program : (end : ℕ) (ts : Tokens) (p : Program) (x : Result (List Decl) Stop) → decls_of ts ≡ x → verdict_of end ts x ≡ Ok p → IsText ts p.decls × (p.end ≡ end)
+told_program end ts p (Ok ds) e h =
+    let i : program_of end ds ≡ p = cc in
+    (subst (λ (q : Program). IsText ts q.decls) i (text_is ts ds e), sym (ap (λ (q : Program). q.end) i))
 told_program end ts p (Err s) e h = absurd cc
 
 -- ---- of bytes
@@ -199,7 +201,9 @@ told_program end ts p (Err s) e h = absurd cc
 -- a verdict is of the tokens that the bytes are laid out as
 module _ (bytes : List ℕ) (laid : AreLaid 0 bytes (tokens_of 0 bytes)) where
   pub read_is_text : (p : Program) → verdict bytes ≡ Ok p → IsTextOf bytes p
-  read_is_text p h = (tokens_of 0 bytes, laid, told_program (length bytes) (tokens_of 0 bytes) p (decls_of (tokens_of 0 bytes)) refl h)
+  read_is_text p h =
+      let t = told_program (length bytes) (tokens_of 0 bytes) p (decls_of (tokens_of 0 bytes)) refl h in
+      (tokens_of 0 bytes, laid, t.0, t.1)
 
   pub told_is_fault : (f : SyntaxFault) → verdict bytes ≡ Err f → IsFaultOf bytes f
   told_is_fault f h =
@@ -232,31 +236,37 @@ not_further front after front' stuck g x = stops (subst (IsStuck front) (x.3) st
   stops s h = s (shorter_goes front x.0 x.2 h)
 
 -- a fault of tokens excludes that they are a text
-no_text : (ts front after : Tokens) (k : Expected) (p : Program) → ts ≡ front ++ after → IsPlace k front after → IsText ts p → ⊥
-no_text ts front after expected.TooDeep p is (t, more, e, goes, none) r =
-    none (more, p, subst (λ l. IsText l p) (is ∙ ap (λ l. front ++ l) e ∙ sym (append_assoc front (t ∷ []) more)) r)
-no_text ts front after k p is place r = stops after is (place_is k front after place not_deep).0 where
+no_text : (ts front after : Tokens) (k : Expected) (ds : List Decl) → ts ≡ front ++ after → IsPlace k front after → IsText ts ds → ⊥
+no_text ts front after expected.TooDeep ds is (t, more, e, goes, none) r =
+    none (more, ds, subst (λ l. IsText l ds) (is ∙ ap (λ l. front ++ l) e ∙ sym (append_assoc front (t ∷ []) more)) r)
+no_text ts front after k ds is place r = stops after is (place_is k front after place not_deep).0 where
   not_deep : k ≡ expected.TooDeep → ⊥
   not_deep e = absurd cc
 
   stops : (after : Tokens) → ts ≡ front ++ after → IsStuck front after → ⊥
-  stops [] is stuck = stuck p (subst (λ l. IsLooseText l p) (is ∙ append-nil front) r.0)
-  stops (t ∷ more) is stuck = stuck (more, p, subst (λ l. IsLooseText l p) (is ∙ sym (append_assoc front (t ∷ []) more)) r.0)
+  stops [] is stuck = stuck ds (subst (λ l. IsLooseText l ds) (is ∙ append-nil front) r.0)
+  stops (t ∷ more) is stuck = stuck (more, ds, subst (λ l. IsLooseText l ds) (is ∙ sym (append_assoc front (t ∷ []) more)) r.0)
+
+-- a program is its declarations and its end
+same_program : (p q : Program) → p.decls ≡ q.decls → p.end ≡ q.end → p ≡ q
+same_program p q same ends = ap (program_of p.end) same ∙ ap (λ end. program_of end q.decls) ends
 
 module _ (bytes : List ℕ) (one : (ts : Tokens) → AreLaid 0 bytes ts → tokens_of 0 bytes ≡ ts) where
   pub text_is_read : (p : Program) → IsTextOf bytes p → verdict bytes ≡ Ok p
   text_is_read p t =
       let same = one t.0 (t.1) in
-      let r = text_read (tokens_of 0 bytes) p (subst (λ l. IsText l p) (sym same) (t.2)) in
-      ap (verdict_of (length bytes) (tokens_of 0 bytes)) (r.1) ∙ ap Ok (sym (r.2))
+      let read = text_read (tokens_of 0 bytes) p.decls (subst (λ l. IsText l p.decls) (sym same) (t.2)) in
+      ap (verdict_of (length bytes) (tokens_of 0 bytes)) read ∙ ap Ok (same_program (program_of (length bytes) p.decls) p refl (sym (t.3)))
 
   -- a text has one tree
   pub text_has_one_tree : (p q : Program) → IsTextOf bytes p → IsTextOf bytes q → p ≡ q
-  text_has_one_tree p q r s = one_text r.0 p q (r.2).0 (subst (λ l. IsLooseText l q) (sym (one s.0 (s.1)) ∙ one r.0 (r.1)) (s.2).0)
+  text_has_one_tree p q r s = same_program p q
+      (one_text r.0 p.decls q.decls (r.2).0 (subst (λ l. IsLooseText l q.decls) (sym (one s.0 (s.1)) ∙ one r.0 (r.1)) (s.2).0))
+      (r.3 ∙ sym (s.3))
 
   -- and no fault
   pub text_has_no_fault : (p : Program) (f : SyntaxFault) → IsTextOf bytes p → IsFaultOf bytes f → ⊥
-  text_has_no_fault p f r g = no_text r.0 g.front g.after f.expected p (sym (one r.0 (r.1)) ∙ one (g.front ++ g.after) g.laid) g.kind (r.2)
+  text_has_no_fault p f r g = no_text r.0 g.front g.after f.expected p.decls (sym (one r.0 (r.1)) ∙ one (g.front ++ g.after) g.laid) g.kind (r.2)
 
   -- faults but those of depth have one place
   pub fault_has_one_place : (f g : SyntaxFault) → IsFaultOf bytes f → IsFaultOf bytes g → (f.expected ≡ expected.TooDeep → ⊥) → (g.expected ≡ expected.TooDeep → ⊥) → f.at ≡ g.at

@@ -17,7 +17,6 @@ use Rattle.ligo_syntax.specs.declared.program.ParamForm.TheVariants as param
 use Rattle.ligo_syntax.specs.declared.program.Param.{Param}
 use Rattle.ligo_syntax.specs.declared.program.Decl.{Decl}
 use Rattle.ligo_syntax.specs.declared.program.Decl.TheVariants as decl
-use Rattle.ligo_syntax.specs.declared.program.Program.{Program}
 
 -- of what may be left out
 abbrev pub if_there : {A : Type 0} → (A → ℕ) → Option A → ℕ
@@ -78,6 +77,6 @@ decl_depth (decl.Type d) = 1 + definition_depth d.definition
 decl_depth (decl.Value d) =
     1 + max (deepest param_depth d.params) (max (if_there type_depth d.result) (expr_depth d.body))
 
--- a program
-abbrev pub program_depth : Program → ℕ
-program_depth p = 1 + deepest decl_depth p.decls
+-- a program, of its declarations
+abbrev pub program_depth : List Decl → ℕ
+program_depth decls = 1 + deepest decl_depth decls

@@ -24,15 +24,15 @@ use Rattle.ligo_syntax.specs.Grammar.{DefinitionRule, DeclRule, IsLooseText, IsT
 
 -- some tokens behind these make them a text of the loose grammar
 abbrev pub GoesOn : Tokens → Type 0
-GoesOn ts = (more : Tokens) × (p : Program) × IsLooseText (ts ++ more) p
+GoesOn ts = (more : Tokens) × (ds : List Decl) × IsLooseText (ts ++ more) ds
 
 -- and one that isn't too deep
 abbrev pub Fits : Tokens → Type 0
-Fits ts = (more : Tokens) × (p : Program) × IsText (ts ++ more) p
+Fits ts = (more : Tokens) × (ds : List Decl) × IsText (ts ++ more) ds
 
 -- with the next token no text begins; at the end, these are no text
 abbrev pub IsStuck : Tokens → Tokens → Type 0
-IsStuck before [] = (p : Program) → IsLooseText before p → ⊥
+IsStuck before [] = (ds : List Decl) → IsLooseText before ds → ⊥
 IsStuck before (t ∷ after) = GoesOn (before ++ t ∷ []) → ⊥
 
 -- something of this kind stands in front; the end counts as a token
@@ -62,7 +62,7 @@ WantsSmaller before after = (t : Token) × (more : Tokens) × (after ≡ t ∷ m
 
 -- something of this kind can stand behind them
 abbrev pub CanStand : Expected → Tokens → Type 0
-CanStand e before = (more : Tokens) × (p : Program) × Begins e more × IsLooseText (before ++ more) p
+CanStand e before = (more : Tokens) × (ds : List Decl) × Begins e more × IsLooseText (before ++ more) ds
 
 -- what each kind says of the tokens before its place and of those from there on
 abbrev pub IsPlace : Expected → Tokens → Tokens → Type 0
@@ -84,6 +84,6 @@ pub record IsFaultOf (bytes : List ℕ) (f : SyntaxFault) : Type 0 where
   pub place : f.at ≡ place_of (length bytes) after
   pub kind : IsPlace f.expected front after
 
--- bytes that are laid out as a text of the grammar
+-- bytes that are laid out as a text of the grammar, and how many they are
 abbrev pub IsTextOf : List ℕ → Program → Type 0
-IsTextOf bytes p = (ts : Tokens) × AreLaid 0 bytes ts × IsText ts p
+IsTextOf bytes p = (ts : Tokens) × AreLaid 0 bytes ts × IsText ts p.decls × (p.end ≡ length bytes)

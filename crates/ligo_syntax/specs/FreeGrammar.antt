@@ -1,10 +1,9 @@
 -- The grammar without greed: where something may go on it need not, so a text may have several trees.
-use Rattle.std.specs.Prelude.{ℕ, zero, suc, []}
+use Rattle.std.specs.Prelude.{ℕ, zero, suc, List, []}
 use Rattle.ligo_syntax.specs.declared.expr.Expr.{Expr}
-use Rattle.ligo_syntax.specs.declared.program.Program.{Program}
+use Rattle.ligo_syntax.specs.declared.program.Decl.{Decl}
 use Rattle.ligo_syntax.specs.Kinds.{Tokens}
-use Rattle.ligo_syntax.specs.Rules.{Rule, Never, Made, Repeated, free}
-use Rattle.ligo_syntax.specs.ProgramTrees.{program_of}
+use Rattle.ligo_syntax.specs.Rules.{Rule, Never, Repeated, free}
 use Rattle.ligo_syntax.specs.TypeGrammar.{PatternRule, IsType, IsPattern}
 use Rattle.ligo_syntax.specs.AtomGrammar.{Form, Whole}
 use Rattle.ligo_syntax.specs.ExprGrammar.{FormRule}
@@ -17,10 +16,9 @@ IsFreeExpr (suc n) form =
     FormRule free (IsType n) (IsPattern n) (PatternRule (IsPattern n)) (IsFreeExpr n) form
 
 -- program = { decl }
-abbrev pub IsFreeProgram : ℕ → Rule Program
-IsFreeProgram n =
-    Made program_of (Repeated (DeclRule (IsType n) (IsPattern n) (IsFreeExpr n Whole)))
+abbrev pub IsFreeProgram : ℕ → Rule (List Decl)
+IsFreeProgram n = Repeated (DeclRule (IsType n) (IsPattern n) (IsFreeExpr n Whole))
 
 -- a text of it, in which a tree may be of any depth
-abbrev pub IsFreeText : Tokens → Program → Type 0
-IsFreeText ts p = (n : ℕ) × IsFreeProgram n ts p []
+abbrev pub IsFreeText : Tokens → List Decl → Type 0
+IsFreeText ts ds = (n : ℕ) × IsFreeProgram n ts ds []

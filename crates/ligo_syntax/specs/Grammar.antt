@@ -4,7 +4,7 @@
 --
 -- An arm or a `let` takes as much as it can, an `else` belongs to the nearest `if` that can have it,
 -- and an upper name with a dot behind it is none alone: AsMany and IfItCan.
-use Rattle.std.specs.Prelude.{ℕ, ◌≤◌, [], ◌∷◌, Some, None}
+use Rattle.std.specs.Prelude.{ℕ, ◌≤◌, List, [], ◌∷◌, Some, None}
 use Rattle.ligo_tokens.specs.declared.token.Kind.TheVariants as kind
 use Rattle.ligo_syntax.specs.declared.type_expr.TypeExpr.{TypeExpr}
 use Rattle.ligo_syntax.specs.declared.pattern.Pattern.{Pattern}
@@ -15,11 +15,10 @@ use Rattle.ligo_syntax.specs.declared.program.Definition.{Definition}
 use Rattle.ligo_syntax.specs.declared.program.Definition.TheVariants as definition
 use Rattle.ligo_syntax.specs.declared.program.Param.{Param}
 use Rattle.ligo_syntax.specs.declared.program.Decl.{Decl}
-use Rattle.ligo_syntax.specs.declared.program.Program.{Program}
 use Rattle.ligo_syntax.specs.Kinds.{Tokens}
 use Rattle.ligo_syntax.specs.Classes.{name_kinds, attribute_kinds}
 use Rattle.ligo_syntax.specs.Rules.{Rule, OneOf, Both, Made, Either, Repeated, Key, From, Closed, Optional, Parted, Listed}
-use Rattle.ligo_syntax.specs.ProgramTrees.{type_field, type_case, record_type, variant_type, param_of, type_decl, value_decl, program_of}
+use Rattle.ligo_syntax.specs.ProgramTrees.{type_field, type_case, record_type, variant_type, param_of, type_decl, value_decl}
 use Rattle.ligo_syntax.specs.Depth.{program_depth}
 use Rattle.ligo_syntax.specs.TypeGrammar.{IsType, IsPattern}
 use Rattle.ligo_syntax.specs.AtomGrammar.{Whole}
@@ -61,13 +60,13 @@ abbrev pub DeclRule : Rule TypeExpr → Rule Pattern → Rule Expr → Rule Decl
 DeclRule T P E = Either (TypeDeclRule T) (ValueDeclRule T P E)
 
 -- program = { decl }
-abbrev pub IsProgram : ℕ → Rule Program
-IsProgram n = Made program_of (Repeated (DeclRule (IsType n) (IsPattern n) (IsExpr n Whole)))
+abbrev pub IsProgram : ℕ → Rule (List Decl)
+IsProgram n = Repeated (DeclRule (IsType n) (IsPattern n) (IsExpr n Whole))
 
 -- a text of the loose grammar, in which a tree may be of any depth
-abbrev pub IsLooseText : Tokens → Program → Type 0
-IsLooseText ts p = (n : ℕ) × IsProgram n ts p []
+abbrev pub IsLooseText : Tokens → List Decl → Type 0
+IsLooseText ts ds = (n : ℕ) × IsProgram n ts ds []
 
 -- a text of the grammar
-abbrev pub IsText : Tokens → Program → Type 0
-IsText ts p = IsLooseText ts p × (program_depth p ≤ 512)
+abbrev pub IsText : Tokens → List Decl → Type 0
+IsText ts ds = IsLooseText ts ds × (program_depth ds ≤ 512)

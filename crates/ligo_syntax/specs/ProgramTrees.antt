@@ -81,6 +81,6 @@ value_decl (marks, (word, (again, (t, (params, (result, body)))))) = decl.Value 
   body = body;
 })
 
--- a program of its declarations
-abbrev pub program_of : List Decl → Program
-program_of decls = record { decls = decls }
+-- a program of its declarations, in a text so long
+abbrev pub program_of : ℕ → List Decl → Program
+program_of end decls = record { decls = decls; end = end }

@@ -55,7 +55,7 @@ fault_of end ts stop.NoMemory = record { at = end; expected = expected.Token }
 
 -- what is told, by what reading gave
 abbrev pub verdict_of : ℕ → Tokens → Result (List Decl) Stop → Result Program SyntaxFault
-verdict_of end ts (Ok ds) = Ok (program_of ds)
+verdict_of end ts (Ok ds) = Ok (program_of end ds)
 verdict_of end ts (Err e) = Err (fault_of end ts e)
 
 -- what is told of bytes

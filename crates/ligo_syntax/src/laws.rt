@@ -7,6 +7,7 @@ ghost use Rattle.ligo_syntax.specs.Grammar.{IsLooseText};
 ghost use Rattle.ligo_syntax.specs.Kinds.{Tokens};
 ghost use Rattle.ligo_syntax.specs.declared.fault.Expected.TheVariants as expected;
 ghost use Rattle.ligo_syntax.specs.declared.fault.SyntaxFault.{SyntaxFault};
+ghost use Rattle.ligo_syntax.specs.declared.program.Decl.{Decl};
 ghost use Rattle.ligo_syntax.specs.declared.program.Program.{Program};
 
 use ligo_tokens::bytes_are_laid_out_in_one_way;
@@ -32,7 +33,7 @@ pub fn faults_have_one_place()
 
 /// Taking as much as it can loses no text: without it a text has the same tree, and maybe others.
 pub fn greed_loses_no_text()
-    ensures kept { (ts : Tokens) (p : Program) → IsLooseText ts p → IsFreeText ts p }
-    ensures none_lost { (ts : Tokens) (p : Program) → IsFreeText ts p →
-        (q : Program) × IsLooseText ts q }
+    ensures kept { (ts : Tokens) (ds : List Decl) → IsLooseText ts ds → IsFreeText ts ds }
+    ensures none_lost { (ts : Tokens) (ds : List Decl) → IsFreeText ts ds →
+        (es : List Decl) × IsLooseText ts es }
 {}

@@ -11,6 +11,8 @@ use sqlite_items::Items;
 pub struct Program {
     /// Its declarations, in their order.
     pub decls: Items<Decl>,
+    /// The length of its text.
+    pub end: u32,
 }
 
 /// A declaration, with the offset of its first token.

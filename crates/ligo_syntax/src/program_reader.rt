@@ -24,7 +24,10 @@ pub(crate) fn read_text(alloc: Global, b: &[u8]) -> Result<Program, SyntaxRefusa
 {
     let found = tokens(alloc, b)?;
     match all_decls(alloc, found.as_slice()) {
-        Ok(decls) => Ok(Program { decls }),
+        Ok(decls) => Ok(Program {
+            decls,
+            end: b.len() as u32,
+        }),
         Err(Stop::Unexpected(expected, left)) => Err(SyntaxRefusal::Fault(unexpected(
             alloc,
             b.len(),
