@@ -11,3 +11,4 @@ pub mod Steady
 pub mod Covering
 pub mod Swapping
 pub mod Reordering
+pub mod JoinOrders

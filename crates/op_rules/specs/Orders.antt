@@ -1,11 +1,12 @@
 -- Runs of operations with what each gives, and other orders of them.
-use Rattle.std.specs.Prelude.{◌≡◌, List, [], ◌∷◌, ◌++◌, map}
+use Rattle.std.specs.Prelude.{◌≡◌, ℕ, ◌+◌, List, [], ◌∷◌, ◌++◌, map}
 use Rattle.std.specs.List.{AllByRecursion}
 use Rattle.cell_names.specs.declared.cell.Cell.{Cell}
 use Rattle.cell_names.specs.declared.head.Head.{Head}
 use Rattle.cell_names.specs.declared.mode.Mode.{Mode}
 use Rattle.cell_names.specs.Contents.{Contents}
 use Rattle.code_book.specs.Books.{Contracts}
+use Rattle.join_schedule.specs.Joins.{IsBefore}
 use Rattle.op_rules.specs.declared.op.Op.{Op}
 use Rattle.op_rules.specs.declared.receipt.Receipt.{Receipt}
 use Rattle.op_rules.specs.Alike.{NeverConflict}
@@ -30,3 +31,24 @@ KeepsConflicts entries [] = entries ≡ []
 KeepsConflicts entries (e ∷ others) =
     (before behind : List Entry) × (entries ≡ before ++ e ∷ behind)
     × AllByRecursion (λ d. NeverConflict d.footprint e.footprint) before × KeepsConflicts (before ++ behind) others
+
+-- ---- orders and joins
+
+-- entries with their numbers, counted from this one
+abbrev pub numbered : ℕ → List Entry → List (ℕ × Entry)
+numbered n [] = []
+numbered n (e ∷ entries) = (n, e) ∷ numbered (n + 1) entries
+
+-- the same entries, each as often
+abbrev pub IsOrderOf : List (ℕ × Entry) → List (ℕ × Entry) → Type 0
+IsOrderOf entries [] = entries ≡ []
+IsOrderOf entries (e ∷ others) = (before behind : List (ℕ × Entry)) × (entries ≡ before ++ e ∷ behind) × IsOrderOf (before ++ behind) others
+
+-- none stands behind another that it is before by the joins
+abbrev pub Respects : List (List ℕ) → List (ℕ × Entry) → Type 0
+Respects joins [] = Unit {0}
+Respects joins (e ∷ others) = AllByRecursion (λ d. ¬ IsBefore joins d.0 e.0) others × Respects joins others
+
+-- entries without their numbers
+abbrev pub entries_in : List (ℕ × Entry) → List Entry
+entries_in = map (λ e. e.1)

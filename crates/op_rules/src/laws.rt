@@ -1,6 +1,6 @@
 //! What is true of operations, whoever runs them.
 
-ghost use Rattle.std.specs.Prelude.{◌≡◌, ◌↔◌, IsTrue, List, ℕ};
+ghost use Rattle.std.specs.Prelude.{◌≡◌, ◌↔◌, IsTrue, List, ℕ, map};
 ghost use Rattle.std.specs.FinMap.{get};
 ghost use Rattle.value_core.specs.declared.ty.Ty.{Ty};
 ghost use Rattle.value_core.specs.declared.val.Val.{Val};
@@ -15,11 +15,12 @@ ghost use Rattle.cell_names.specs.declared.head.Head.{Head};
 ghost use Rattle.cell_names.specs.Contents.{Contents};
 ghost use Rattle.cell_names.specs.Supply.{supply};
 ghost use Rattle.code_book.specs.Books.{Contracts};
+ghost use Rattle.join_schedule.specs.Cover.{Cover};
 ghost use Rattle.op_rules.specs.declared.op.Op.{Op};
 ghost use Rattle.op_rules.specs.declared.transfer.Transfer.{Transfer};
 ghost use Rattle.op_rules.specs.Alike.{AgreeWhereSeen, AnswerAlike, IsSame, MayBeSwapped, NeverConflict, left_by};
 ghost use Rattle.op_rules.specs.Course.{Course, Failed, footprint_of};
-ghost use Rattle.op_rules.specs.Orders.{Entry, KeepsConflicts, RunsTo};
+ghost use Rattle.op_rules.specs.Orders.{Entry, IsOrderOf, KeepsConflicts, Respects, RunsTo, entries_in, numbered};
 ghost use Rattle.op_rules.specs.Laws.{ChangesAreTouched, GetsReplies};
 ghost use Rattle.op_rules.specs.Replies.{BeginWith, Gives};
 ghost use Rattle.op_rules.specs.SameType.{is_same_type};
@@ -75,6 +76,16 @@ pub fn orders_that_keep_conflicts_have_one_run()
     ensures { (book : Contracts) (head : Head) (m n : Contents) (entries others : List Entry)
         → KeepsConflicts entries others → RunsTo book head m entries n
         → RunsTo book head m others n }
+{}
+
+/// Where joins order all conflicts of a block's footprints, each order of its operations that respects the
+/// joins gives each the same receipt and the same footprint, and leaves the same cells.
+pub fn orders_that_respect_joins_have_one_run()
+    ensures { (book : Contracts) (head : Head) (m n : Contents) (joins : List (List ℕ))
+        (entries : List Entry) (others : List (ℕ × Entry))
+        → Cover joins (map (λ e. e.footprint) entries)
+        → IsOrderOf (numbered 0 entries) others → Respects joins others
+        → RunsTo book head m entries n → RunsTo book head m (entries_in others) n }
 {}
 
 /// Transfers only add accesses to those so far.
