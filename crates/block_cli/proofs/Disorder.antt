@@ -3,7 +3,7 @@ use Rattle.std.proofs.Common.{Option, Some, None, Result, Ok, Err}
 use Rattle.std.specs.Prelude.{IfOk}
 use Rattle.join_schedule.specs.Joins.{AreJoins}
 use Rattle.plain_ledger.specs.Ledger.{Ledger}
-use Rattle.block_codec.specs.Block.{BlockView}
+use Rattle.transfer_blocks.specs.Block.{BlockView}
 use Rattle.block_cli.specs.Verdict.{StandsOn}
 use Rattle.block_cli.specs.Judging.{ConflictOr, OrdersOr}
 use Rattle.block_cli.specs.declared.refusal.Refusal.{Refusal}

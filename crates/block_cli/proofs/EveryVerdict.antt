@@ -19,16 +19,16 @@ use Rattle.byte_fields.specs.Stops.{Stop}
 use Rattle.byte_fields.specs.Stops as stops
 use Rattle.plain_ledger.specs.Ledger.{Ledger}
 use Rattle.plain_ledger.specs.Reading.{ledger_of}
-use Rattle.block_codec.specs.Spelling.{spelling}
-use Rattle.block_codec.specs.Reading.{block_of}
+use Rattle.transfer_blocks.specs.Spelling.{spelling}
+use Rattle.transfer_blocks.specs.Reading.{block_of}
 use Rattle.block_cli.specs.Commands.{FileName, Check, Validate}
 use Rattle.block_cli.specs.Report.{malformed, not_yet}
 use Rattle.block_cli.specs.Answer.{Answer, bad_input}
 use Rattle.block_cli.specs.Validating.{answer_to, ValidatesOn}
 use Rattle.block_cli.specs.Checking.{HaveAFinding, answer_of}
 use Rattle.block_cli.specs.Meaning.{ContentsHaveAnAnswer}
-use Rattle.block_codec.specs.Block.{BlockView, IsBlock}
-use Rattle.block_codec.specs.declared.transfer.Receipt.{Receipt}
+use Rattle.transfer_blocks.specs.Block.{BlockView, IsBlock}
+use Rattle.transfer_blocks.specs.declared.transfer.Receipt.{Receipt}
 use Rattle.plain_digest.specs.Digest.{digest_of}
 use Rattle.block_cli.specs.declared.refusal.Refusal.TheVariants.{Malformed, NotYet, WrongParent, BadJoin, Unordered, FootprintDiffers, ReceiptDiffers, StateDiffers}
 use Rattle.block_cli.specs.Verdict.{Verdict, Refused, Accepted, StandsOn, IsOrdered, serial_run, SameFootprint, SameReceipt, TellsFirst, state_after, IsVerdictOn, IsVerdictOf, HaveAVerdict}

@@ -14,8 +14,8 @@ use Rattle.cell_names.specs.CellOrder.{cell_cmp-total, cell_cmp-ties}
 use Rattle.join_schedule.specs.Joins.{AreJoins, IsFirstBad}
 use Rattle.join_schedule.specs.Cover.{Cover, IsFirstUnordered}
 use Rattle.plain_ledger.specs.Ledger.{Ledger}
-use Rattle.block_codec.specs.Block.{BlockView}
-use Rattle.block_codec.specs.Reading.{block_of}
+use Rattle.transfer_blocks.specs.Block.{BlockView}
+use Rattle.transfer_blocks.specs.Reading.{block_of}
 use Rattle.plain_digest.specs.Digest.{digest_of}
 use Rattle.block_cli.specs.declared.refusal.Refusal.TheVariants.{Malformed, NotYet, WrongParent, BadJoin, Unordered, FootprintDiffers, ReceiptDiffers, StateDiffers}
 use Rattle.block_cli.specs.Verdict.{Verdict, Refused, Accepted, StandsOn, IsOrdered, SameFootprint, SameReceipt, TellsFirst, state_after, IsVerdictOn, IsVerdictOf, IsVerdict}

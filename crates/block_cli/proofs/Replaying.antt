@@ -6,9 +6,9 @@ use Rattle.std.proofs.lemmas.Bool.{cases_lt}
 use Rattle.cell_names.specs.declared.cell.Cell.{Cell}
 use Rattle.cell_names.specs.declared.mode.Mode.{Mode}
 use Rattle.plain_ledger.specs.Ledger.{Ledger, Balances}
-use Rattle.block_codec.specs.declared.transfer.Transfer.{Transfer}
-use Rattle.block_codec.specs.declared.transfer.Receipt.{Receipt}
-use Rattle.block_codec.specs.Block.{BlockView, IsBlock}
+use Rattle.transfer_blocks.specs.declared.transfer.Transfer.{Transfer}
+use Rattle.transfer_blocks.specs.declared.transfer.Receipt.{Receipt}
+use Rattle.transfer_blocks.specs.Block.{BlockView, IsBlock}
 use Rattle.plain_transfers.specs.Serial.{serial}
 use Rattle.plain_transfers.specs.Run.{run_on}
 use Rattle.block_cli.specs.Verdict.{serial_run, SameFootprint, SameReceipt, TellsFirst}

@@ -9,11 +9,11 @@ use Rattle.std.proofs.lemmas.List.{length-append}
 use Rattle.std.proofs.lemmas.List.Concat.{flat_map-cons}
 use Rattle.plain_ledger.specs.Ledger.{Ledger, Balances, balance}
 use Rattle.plain_ledger.specs.Spelling.{magic, cell, spelling, IsLedger}
-use Rattle.block_codec.specs.Block.{BlockView, IsBlock}
+use Rattle.transfer_blocks.specs.Block.{BlockView, IsBlock}
 use Rattle.cell_names.specs.declared.cell.Cell.{Cell}
 use Rattle.cell_names.specs.declared.mode.Mode.{Mode}
-use Rattle.block_codec.specs.declared.transfer.Receipt.{Receipt}
-use Rattle.block_codec.specs.declared.transfer.Transfer.{Transfer}
+use Rattle.transfer_blocks.specs.declared.transfer.Receipt.{Receipt}
+use Rattle.transfer_blocks.specs.declared.transfer.Transfer.{Transfer}
 use Rattle.plain_transfers.specs.Serial.{Ran, applied, too_low, serial, debited, credited, debit_cells, paid_cells}
 use Rattle.plain_transfers.specs.Run.{run_on}
 use Rattle.block_cli.specs.Verdict.{state_after}

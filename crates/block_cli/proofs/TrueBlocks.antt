@@ -9,10 +9,10 @@ use Rattle.plain_ledger.specs.Ledger.{Ledger, Balances, AreBalances, supply}
 use Rattle.plain_ledger.specs.Reading.{ledger_of}
 use Rattle.plain_ledger.specs.Spelling.{IsLedger}
 use Rattle.plain_ledger.specs.Spelling.{spelling as spelt}
-use Rattle.block_codec.specs.Block.{BlockView, IsBlock, IsTransfer}
-use Rattle.block_codec.specs.Spelling.{spelling}
-use Rattle.block_codec.specs.Reading.{block_of}
-use Rattle.block_codec.specs.declared.transfer.Transfer.{Transfer}
+use Rattle.transfer_blocks.specs.Block.{BlockView, IsBlock, IsTransfer}
+use Rattle.transfer_blocks.specs.Spelling.{spelling}
+use Rattle.transfer_blocks.specs.Reading.{block_of}
+use Rattle.transfer_blocks.specs.declared.transfer.Transfer.{Transfer}
 use Rattle.plain_transfers.specs.Serial.{serial}
 use Rattle.plain_transfers.specs.Run.{IsPlain, run_all, run_on}
 use Rattle.block_cli.specs.Verdict.{Accepted, serial_run, state_after, IsTrueOn, IsVerdictOf, IsTrueBlock, LeavesLedger, AcceptedBytesAreTrueBlocks, AcceptedBlocksLeaveLedgers}

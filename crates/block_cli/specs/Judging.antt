@@ -2,7 +2,7 @@
 use Rattle.std.specs.Prelude.{◌≡◌, ◌+◌, ◌≤◌, length, Option, Some, None, Result, Ok, Err}
 use Rattle.std.specs.FinMap.{len}
 use Rattle.plain_ledger.specs.Ledger.{Ledger}
-use Rattle.block_codec.specs.Block.{BlockView}
+use Rattle.transfer_blocks.specs.Block.{BlockView}
 use Rattle.join_schedule.specs.Cover.{Cover, IsFirstUnordered}
 use Rattle.block_cli.specs.Verdict.{IsOrdered, TellsFirst, state_after, IsRefusedOn, Verdict, Refused, Accepted}
 use Rattle.block_cli.specs.declared.refusal.Refusal.{Refusal}

@@ -8,9 +8,9 @@ use Rattle.plain_ledger.specs.Ledger.{Ledger, supply}
 use Rattle.plain_ledger.specs.Reading.{ledger_of}
 use Rattle.plain_ledger.specs.Spelling.{IsLedger}
 use Rattle.plain_ledger.specs.Spelling.{spelling as spelt}
-use Rattle.block_codec.specs.Block.{BlockView, IsBlock}
-use Rattle.block_codec.specs.Spelling.{spelling}
-use Rattle.block_codec.specs.Reading.{block_of}
+use Rattle.transfer_blocks.specs.Block.{BlockView, IsBlock}
+use Rattle.transfer_blocks.specs.Spelling.{spelling}
+use Rattle.transfer_blocks.specs.Reading.{block_of}
 use Rattle.join_schedule.specs.Joins.{AreJoins, IsFirstBad}
 use Rattle.join_schedule.specs.Cover.{Cover, IsFirstUnordered}
 use Rattle.plain_digest.specs.Digest.{digest_of}

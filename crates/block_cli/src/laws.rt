@@ -4,13 +4,13 @@ ghost use Rattle.block_cli.specs.Meaning.{AnswersWriteAllOrNothing, ContentsHave
 ghost use Rattle.block_cli.specs.Checking.{HaveAFinding, HaveOneFinding};
 ghost use Rattle.block_cli.specs.Verdict.{AcceptedBlocksLeaveLedgers, AcceptedBytesAreTrueBlocks, HaveAVerdict, HaveOneVerdict};
 
-use block_codec::blocks_have_one_spelling;
 use michelson_code::{
     a_script_has_one_fault, a_script_is_typed_or_has_a_fault, a_typed_script_has_no_fault,
 };
 use michelson_reader::{a_text_spells_one_script, bytes_are_a_script_or_have_one_fault};
 use plain_ledger::ledgers_have_one_spelling;
 use plain_transfers::supply_is_kept;
+use transfer_blocks::blocks_have_one_spelling;
 
 /// A number is spelt as a word in one way: `0`, or digits of which the first isn't 0.
 pub fn numbers_have_one_spelling()

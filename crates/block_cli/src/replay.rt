@@ -1,14 +1,14 @@
 //! Running the operations of a block again, against what it publishes of them.
 ghost use Rattle.std.specs.Prelude.{◌≡◌, ◌↔◌, IfOk, IsTrue};
-ghost use Rattle.block_codec.specs.Block.{IsBlock};
+ghost use Rattle.transfer_blocks.specs.Block.{IsBlock};
 ghost use Rattle.block_cli.specs.Judging.{Replays};
 
 use crate::refusal::Refusal;
-use block_codec::{Block, Receipt};
 use cell_names::Footprint;
 use plain_ledger::State;
 use plain_transfers::Overlay;
 use std::alloc::{AllocError, Global};
+use transfer_blocks::{Block, Receipt};
 
 /// Whether an operation touched what is published.
 fn same_footprint(touched: &Footprint, published: &Footprint) -> bool

@@ -1,6 +1,6 @@
 //! The verdict on a block.
 ghost use Rattle.std.specs.Prelude.{◌≡◌, ◌↔◌, IfOk, IsTrue};
-ghost use Rattle.block_codec.specs.Block.{IsBlock};
+ghost use Rattle.transfer_blocks.specs.Block.{IsBlock};
 ghost use Rattle.join_schedule.specs.Joins.{AreJoins};
 ghost use Rattle.block_cli.specs.Verdict.{IsOrdered, IsVerdict, IsVerdictOn, StandsOn};
 ghost use Rattle.block_cli.specs.Judging.{AddsFew, OrdersOr, ConflictOr, verdict_in};
@@ -8,13 +8,13 @@ ghost use Rattle.block_cli.specs.Judging.{AddsFew, OrdersOr, ConflictOr, verdict
 use crate::next::Next;
 use crate::refusal::Refusal;
 use crate::replay::replay;
-use block_codec::{Block, read_block};
 use byte_fields::At;
 use cell_names::FormatFault;
 use join_schedule::{bad_join, first_unordered};
 use plain_digest::digest;
 use plain_ledger::State;
 use std::alloc::{AllocError, Global};
+use transfer_blocks::{Block, read_block};
 
 /// What a block is worth on a state.
 #[derive(Drop)]

@@ -3,7 +3,7 @@ use Rattle.std.proofs.Common.{◌≡◌, ◌≢◌, ◌<◌, ◌≤◌, [], ap, 
 use Rattle.std.specs.Prelude.{nat_lt, if◌then◌else◌}
 use Rattle.std.proofs.lemmas.Bool.{eq-eqb, ne_eqb, lt-ltb, le-ltb}
 use Rattle.plain_ledger.specs.Ledger.{Balances, balance}
-use Rattle.block_codec.specs.declared.transfer.Transfer.{Transfer}
+use Rattle.transfer_blocks.specs.declared.transfer.Transfer.{Transfer}
 use Rattle.plain_transfers.specs.Serial.{Ran, applied, credited, debited, serial, too_low, debit_cells, paid_cells}
 
 abbrev pub unmoved : Balances → Ran

@@ -4,7 +4,7 @@ use Rattle.std.specs.Prelude.{nat_lt, if◌then◌else◌}
 use Rattle.std.specs.List.{AllByRecursion}
 use Rattle.std.proofs.lemmas.Bool.{ltb-false}
 use Rattle.plain_ledger.specs.Ledger.{Balances, AreBalances, balance, supply}
-use Rattle.block_codec.specs.declared.transfer.Transfer.{Transfer}
+use Rattle.transfer_blocks.specs.declared.transfer.Transfer.{Transfer}
 use Rattle.plain_transfers.specs.Serial.{serial}
 use Rattle.plain_transfers.specs.Run.{IsPlain, run_on}
 use Rattle.plain_transfers.proofs.Cases.{unmoved, failed, paid}

@@ -4,8 +4,8 @@ use Rattle.cell_names.specs.declared.cell.Cell.{Cell}
 use Rattle.cell_names.specs.declared.mode.Mode.{Mode}
 use Rattle.cell_names.specs.Accounts.{IsImplicit}
 use Rattle.plain_ledger.specs.Ledger.{Balances, Ledger}
-use Rattle.block_codec.specs.declared.transfer.Receipt.{Receipt}
-use Rattle.block_codec.specs.declared.transfer.Transfer.{Transfer}
+use Rattle.transfer_blocks.specs.declared.transfer.Receipt.{Receipt}
+use Rattle.transfer_blocks.specs.declared.transfer.Transfer.{Transfer}
 use Rattle.plain_transfers.specs.Serial.{serial}
 
 -- what transfers leave: the balances, and the receipt and the footprint of each

@@ -6,8 +6,8 @@ use Rattle.cell_names.specs.declared.mode.Mode.{Mode}
 use Rattle.cell_names.specs.declared.mode.Mode.TheVariants.{Credit, Own}
 use Rattle.cell_names.specs.Footprints.{touched}
 use Rattle.plain_ledger.specs.Ledger.{Balances, balance, with_balance}
-use Rattle.block_codec.specs.declared.transfer.Receipt.{Receipt}
-use Rattle.block_codec.specs.declared.transfer.Transfer.{Transfer}
+use Rattle.transfer_blocks.specs.declared.transfer.Receipt.{Receipt}
+use Rattle.transfer_blocks.specs.declared.transfer.Transfer.{Transfer}
 
 -- the account, which has as much, gives it
 abbrev pub debited : Balances → List ℕ → ℕ → Balances

@@ -5,12 +5,12 @@ ghost use Rattle.plain_ledger.specs.Ledger.{AreBalances, balance, supply};
 ghost use Rattle.plain_transfers.specs.Serial.{serial};
 
 use crate::changes::{Changes, balance_in, holdings_of, pay};
-use block_codec::{Receipt, Transfer};
 use cell_names::{Cell, Footprint, Mode};
 use plain_ledger::{Head, NoMemory, State};
 use std::alloc::Global;
 use std::collections::BTreeMap;
 use std::marker::Model;
+use transfer_blocks::{Receipt, Transfer};
 use value_core::Address;
 
 const APPLIED: Receipt = Receipt {

@@ -2,7 +2,7 @@
 ghost use Rattle.std.specs.Prelude.{◌≡◌, List};
 ghost use Rattle.std.specs.List.{AllByRecursion};
 ghost use Rattle.plain_ledger.specs.Ledger.{AreBalances, Ledger, supply};
-ghost use Rattle.block_codec.specs.declared.transfer.Transfer.{Transfer};
+ghost use Rattle.transfer_blocks.specs.declared.transfer.Transfer.{Transfer};
 ghost use Rattle.plain_transfers.specs.Run.{IsPlain, run_all};
 
 /// After every transfer there is as much as before, and the balances are lawful.

@@ -4,11 +4,11 @@ ghost use Rattle.std.specs.Prelude.{IfOk};
 ghost use Rattle.cell_names.specs.Accounts.{IsImplicit};
 
 use crate::{Overlay, supply_is_kept};
-use block_codec::Transfer;
 use cell_names::{Cell, Footprint, Mode};
 use plain_ledger::{Head, State, read_state};
 use std::alloc::Global;
 use std::test::Fail;
+use transfer_blocks::Transfer;
 use value_core::Address;
 
 // The kind of a balance's cell and the tag of an amount, as docs/FORMATS.md numbers them.

@@ -1,6 +1,6 @@
 use Rattle.std.proofs.Common.{◌≡◌, ℕ, List, ap, sym, subst}
 use Rattle.join_schedule.specs.Joins.{AreJoins}
-use Rattle.block_codec.specs.Block.{BlockView}
+use Rattle.transfer_blocks.specs.Block.{BlockView}
 use Rattle.block_cli.proofs.verdict.conflict_in.Goals as goal
 
 pub first_unordered-requires-clause-joins : goal.first_unordered-requires-clause-joins

@@ -1,6 +1,6 @@
 use Rattle.std.proofs.Common.{◌≡◌, ℕ, List, ap, subst}
 use Rattle.join_schedule.specs.Joins.{AreJoins}
-use Rattle.block_codec.specs.Block.{BlockView}
+use Rattle.transfer_blocks.specs.Block.{BlockView}
 use Rattle.block_cli.proofs.Disorder.{by_conflict}
 use Rattle.block_cli.proofs.verdict.disorder.Goals as goal
 

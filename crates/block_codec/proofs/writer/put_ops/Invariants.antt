@@ -1,8 +1,0 @@
--- What was gone over is spelt.
-use Rattle.std.proofs.Common.{◌≡◌, ◌++◌, take}
-use Rattle.std.specs.List.{flat_map}
-use Rattle.block_codec.specs.Spelling.{op_bytes}
-use Rattle.block_codec.proofs.writer.put_ops.Given as goal
-
-abbrev pub invariant-loop-op : goal.invariant-loop-op
-invariant-loop-op l = l.out.items ≡ l.fn.out.items ++ flat_map op_bytes (take l.op-index l.ops)
