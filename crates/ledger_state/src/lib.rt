@@ -34,4 +34,4 @@ pub use laws::{
 };
 pub use reader::read_state;
 pub use state::State;
-pub use writer::write_state;
+pub use writer::{put_book, write_state};

@@ -41,7 +41,7 @@ pub fn write_state(alloc: Global, s: &State) -> Result<Vec<u8>, NoMemory>
 }
 
 /// The number of contracts, then each with its script.
-fn put_book(alloc: Global, book: &Book, out: &mut Vec<u8>) -> Result<(), NoMemory>
+pub fn put_book(alloc: Global, book: &Book, out: &mut Vec<u8>) -> Result<(), NoMemory>
     ensures written { OnOk result (out.new.items ≡ out.old.items ++ spell_book book.now) }
     ensures again { OnOk result (AreWritable book.now) }
 {
