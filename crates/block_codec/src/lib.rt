@@ -19,8 +19,6 @@ mod limits;
 mod operation;
 mod reader;
 mod receipt;
-#[cfg(test)]
-mod tests;
 mod writer;
 
 pub use block::Block;
