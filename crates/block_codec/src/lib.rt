@@ -19,6 +19,8 @@ mod limits;
 mod operation;
 mod reader;
 mod receipt;
+#[cfg(test)]
+mod tests;
 mod writer;
 
 pub use block::Block;
