@@ -54,12 +54,14 @@ pub record IsStored (s : Script) : Type 0 where
 pub script_reads : Reads script (λ s. spell_text (script_text s)) IsStored
 script_reads = found_reads script_of script_text IsStored
     (λ text s short e.
-    let w = script_is_written text s e in
-    (w.printed, record {
-      runs = w.runs;
-      short = subst (λ (t : List ℕ). length t < 2 ^ 32) (sym w.printed) short;
-      read = subst (λ (t : List ℕ). IsScriptOf t s) (sym w.printed) w.read;
-    }))
+    let w = script_is_written text s e in (
+      w.printed,
+      record {
+        runs = w.runs;
+        short = subst (λ (t : List ℕ). length t < 2 ^ 32) (sym w.printed) short;
+        read = subst (λ (t : List ℕ). IsScriptOf t s) (sym w.printed) w.read;
+      },
+    ))
     (λ s good. (good.short, written_is_script (script_text s) s (record { runs = good.runs; printed = refl; read = good.read })))
     text_reads
 
@@ -147,23 +149,26 @@ book_from rows good =
     let is : entries m ≡ rows = entries-from_sorted by_bytes rows (T_of _ t.ascend) in
     let count : len m ≡ length rows = len-entries m ∙ ap length is in
     let kept : AllByRecursion IsKept (entries m) = subst (AllByRecursion IsKept) (sym is) t.kept in
-    let few : length rows ≤ 1024 = leb-true (length rows) 1024 good.0.1 in
-    ((λ i. to_be_bytes w32 (sym count i) ++ flat_map spell_contract (sym is i)), record {
-      book = record {
-        few = subst (λ n. n ≤ 1024) (sym count) few;
-        listed = λ address s e. (each_held total IsKept ties m kept address s e).0;
-      };
-      writable = λ address s e. (each_held total IsKept ties m kept address s e).1;
-    })
+    let few : length rows ≤ 1024 = leb-true (length rows) 1024 good.0.1 in (
+      (λ i. to_be_bytes w32 (sym count i) ++ flat_map spell_contract (sym is i)),
+      record {
+        book = record {
+          few = subst (λ n. n ≤ 1024) (sym count) few;
+          listed = λ address s e. (each_held total IsKept ties m kept address s e).0;
+        };
+        writable = λ address s e. (each_held total IsKept ties m kept address s e).1;
+      },
+    )
 
 from_book : (m : Contracts) → IsStoredBook m → AreRows (entries m) × (from_sorted (entries m) ≡ m)
 from_book m good =
     let kept : AllByRecursion IsKept (entries m) = held_each total IsKept m (λ address s e. (good.book.listed address s e, good.writable address s e)) in
     let few : len m ≤ 1024 = good.book.few in
     let count : length (entries m) ≡ len m = sym (len-entries m) in
-    let small : length (entries m) ≤ 1024 = omega arith in
-    (((omega arith, le-leb (length (entries m)) 1024 small), (refl, along None (entries m) (sorted total m) refl kept)),
-    same_entries_map _ _ (entries-from_sorted by_bytes (entries m) (entries_sorted m)))
+    let small : length (entries m) ≤ 1024 = omega arith in (
+      ((omega arith, le-leb (length (entries m)) 1024 small), (refl, along None (entries m) (sorted total m) refl kept)),
+      same_entries_map _ _ (entries-from_sorted by_bytes (entries m) (entries_sorted m)),
+    )
 
 pub book_reads : Reads book spell_book IsStoredBook
 book_reads = made_reads from_sorted entries spell_book IsStoredBook book_from from_book contracts_reads

@@ -102,15 +102,15 @@ module _ (book : Contracts) (rows : List Held) (m : Contents) (are : AreAdded bo
   first_bare_contract a e =
       let is = bare_is m (entries book) a (sorted total book) e in
       record { holds = bare_contract a is; first = before is }
-      where
-        before : IsFirstBare m (entries book) a → (g : BuildFault) → IsReason book rows g → ComesBefore g (NoStorage a) → ⊥
-        before is (Misfit i) r lt = no_misfit i r
-        before is (Twice i) r lt = no_repeat i r
-        before is (TooMuch i) r lt = no_passing i r
-        before is (NoStorage b) r less =
-            let s = script_is (get book b) r.contract in
-            housed_somewhere b (is.first b s.0 (sym (get-entries book b) ∙ s.1) less) r
-        before is NoMemory r lt = r
+    where
+      before : IsFirstBare m (entries book) a → (g : BuildFault) → IsReason book rows g → ComesBefore g (NoStorage a) → ⊥
+      before is (Misfit i) r lt = no_misfit i r
+      before is (Twice i) r lt = no_repeat i r
+      before is (TooMuch i) r lt = no_passing i r
+      before is (NoStorage b) r less =
+          let s = script_is (get book b) r.contract in
+          housed_somewhere b (is.first b s.0 (sym (get-entries book b) ∙ s.1) less) r
+      before is NoMemory r lt = r
 
   -- ---- all of them
 

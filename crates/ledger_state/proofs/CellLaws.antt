@@ -97,9 +97,10 @@ module _ (book : Contracts) where
   along before (e ∷ es) up over fit lt =
       let sum_is : money (e ∷ es) ≡ money_of e + money es = money-cons e es in
       let within : before.supply + money_of e < 2 ^ 63 = omega arith in
-      let above : is_above before.last e.0 ≡ true = over_is before.last e.0 ∙ first_over cell_cmp-total before.last e es over in
-      (((fit.0.cell, above), (refl, (fit.0.value, both_true _ _ fit.0.fit (lt-ltb (before.supply + money_of e) (2 ^ 63) within)))),
-      along (next before e) es (second_true _ _ up) (first_true _ _ up) fit.1 (omega arith))
+      let above : is_above before.last e.0 ≡ true = over_is before.last e.0 ∙ first_over cell_cmp-total before.last e es over in (
+        ((fit.0.cell, above), (refl, (fit.0.value, both_true _ _ fit.0.fit (lt-ltb (before.supply + money_of e) (2 ^ 63) within)))),
+        along (next before e) es (second_true _ _ up) (first_true _ _ up) fit.1 (omega arith),
+      )
 
   abbrev row_bytes : List Held → List ℕ
   row_bytes es = to_be_bytes w32 (length es) ++ flat_map spell_held es
@@ -125,20 +126,23 @@ module _ (book : Contracts) where
       let m : Contents = from_sorted es in
       let is : entries m ≡ es = entries-from_sorted cell_cmp es (T_of _ t.ascend) in
       let count : len m ≡ length es = len-entries m ∙ ap length is in
-      let fit : AllByRecursion IsFit (entries m) = subst (AllByRecursion IsFit) (sym is) t.fit in
-      ((λ i. to_be_bytes w32 (sym count i) ++ flat_map spell_held (sym is i)), record {
-        few = subst (λ n. n < 2 ^ 32) (sym count) good.0;
-        fit = λ c v e. (each_held cell_cmp-total IsFit cell_cmp-ties m fit c v e).fit;
-        spelt = λ c v e. let x = each_held cell_cmp-total IsFit cell_cmp-ties m fit c v e in (x.cell, x.value);
-        within = subst (λ (l : List Held). money l < 2 ^ 63) (sym is) (omega (arith, t.within (omega arith)));
-      })
+      let fit : AllByRecursion IsFit (entries m) = subst (AllByRecursion IsFit) (sym is) t.fit in (
+        (λ i. to_be_bytes w32 (sym count i) ++ flat_map spell_held (sym is i)),
+        record {
+          few = subst (λ n. n < 2 ^ 32) (sym count) good.0;
+          fit = λ c v e. (each_held cell_cmp-total IsFit cell_cmp-ties m fit c v e).fit;
+          spelt = λ c v e. let x = each_held cell_cmp-total IsFit cell_cmp-ties m fit c v e in (x.cell, x.value);
+          within = subst (λ (l : List Held). money l < 2 ^ 63) (sym is) (omega (arith, t.within (omega arith)));
+        },
+      )
 
   from_fit : (m : Contents) → AreFit m → AreRows (entries m) × (from_sorted (entries m) ≡ m)
   from_fit m good =
       let fit : AllByRecursion IsFit (entries m) = held_each cell_cmp-total IsFit m (λ c v e. let x = good.spelt c v e in record { cell = x.0; value = x.1; fit = good.fit c v e }) in
-      let within : supply m < 2 ^ 63 = good.within in
-      ((subst (λ n. n < 2 ^ 32) (len-entries m) good.few, (refl, along start (entries m) (sorted cell_cmp-total m) refl fit (omega arith))),
-      same_entries_map _ _ (entries-from_sorted cell_cmp (entries m) (entries_sorted m)))
+      let within : supply m < 2 ^ 63 = good.within in (
+        (subst (λ n. n < 2 ^ 32) (len-entries m) good.few, (refl, along start (entries m) (sorted cell_cmp-total m) refl fit (omega arith))),
+        same_entries_map _ _ (entries-from_sorted cell_cmp (entries m) (entries_sorted m)),
+      )
 
   pub contents_reads : Reads (made from_sorted (rows book)) spell_cells AreFit
   contents_reads = made_reads from_sorted entries spell_cells AreFit fit_from from_fit rows_reads

@@ -83,10 +83,19 @@ stored_from s good =
 from_stored : (s : Ledger) → CanBeStored s → WithLevel s
 from_stored s good = (
   good.lawful.level,
-  (good.lawful.now, (record { book = good.lawful.book; writable = good.scripts }, (record { at_level = refl; at_now = refl; of_book = refl }, (
-    record { few = good.few; fit = good.lawful.cells.values; spelt = good.cells; within = good.lawful.cells.supply },
-    housed_to s.book s.cells good.lawful.cells.storages,
-  )))),
+  (
+    good.lawful.now,
+    (
+      record { book = good.lawful.book; writable = good.scripts },
+      (
+        record { at_level = refl; at_now = refl; of_book = refl },
+        (
+          record { few = good.few; fit = good.lawful.cells.values; spelt = good.cells; within = good.lawful.cells.supply },
+          housed_to s.book s.cells good.lawful.cells.storages,
+        ),
+      ),
+    ),
+  ),
 )
 
 pub ledger_reads : ReadsWhole ledger spelling CanBeStored

@@ -83,8 +83,7 @@ pub same_states : (level now level' now' : ℕ) (book book' : Contracts) (cells 
 same_states level now level' now' book book' cells cells' heads b s t is is' state state' equal heads-are alike =
     let both : (eqb level level' && eqb now now') ≡ true = sym heads-are ∙ equal in
     let levels : level ≡ level' = eqb-true level level' (first_true _ _ both) in
-    let times : now ≡ now' = eqb-true now now' (second_true _ _ both) in
-    (
+    let times : now ≡ now' = eqb-true now now' (second_true _ _ both) in (
       λ h.
           let a = alike.0 h in
           let books : book ≡ book' = sym state.its_own.book ∙ a.book ∙ state'.its_own.book in
@@ -95,5 +94,5 @@ same_states level now level' now' book book' cells cells' heads b s t is is' sta
             book = state.its_own.book ∙ ap (λ (l : Ledger). l.book) one ∙ sym state'.its_own.book;
             cells = ap (λ (l : Ledger). l.cells) one;
             flight = state.its_own.flight ∙ sym state'.its_own.flight;
-          })
+          }),
     )

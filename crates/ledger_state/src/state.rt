@@ -38,7 +38,7 @@ impl Model for State {
     ghost coded = { code_by ((ℕ × ℕ) × (Contracts × Contents))
         (coded× (coded× coded_ℕ coded_ℕ)
         (coded× (finmap.code (coded_list coded_ℕ) script.the_row.coded)
-            (finmap.code cell.the_row.coded val.the_row.coded)))
+        (finmap.code cell.the_row.coded val.the_row.coded)))
         (λ s. ((s.level, s.now), (s.book, s.cells)))
         (λ p. record { level = p.0.0; now = p.0.1; book = p.1.0; cells = p.1.1 }) (λ _. refl) };
 

@@ -84,10 +84,7 @@ fn joined(alloc: Global, fields: &[&[u8]]) -> Result<Vec<u8>, Fail> {
 // Level 7, now 60; the account has 100 and the counter 50; the counter stands at 5, and the tally of
 // the account at 2.
 fn file(alloc: Global) -> Result<Vec<u8>, Fail> {
-    let head = joined(
-        alloc,
-        &[b"FJS1", &7u32.to_be_bytes(), &60u64.to_be_bytes()],
-    )?;
+    let head = joined(alloc, &[b"FJS1", &7u32.to_be_bytes(), &60u64.to_be_bytes()])?;
     let contracts = joined(
         alloc,
         &[
@@ -232,23 +229,52 @@ fn a_fault_is_told_at_its_place(rt: HostRuntime) -> Result<(), Fail> {
         (0, b"G", 0, "another magic"),
         (CONTRACTS, &many, CONTRACTS, "1025 contracts"),
         (FIRST_CONTRACT, &[2], FIRST_CONTRACT, "no address"),
-        (FIRST_CONTRACT, &[0], FIRST_CONTRACT, "an implicit account's address"),
-        (SECOND_CONTRACT + 21, &[1], SECOND_CONTRACT, "an address again"),
-        (FIRST_TEXT + 13, b"\n", FIRST_LENGTH, "a text that isn't printed so"),
-        (FIRST_TEXT + 24, b"nat", FIRST_LENGTH, "a script that isn't typed"),
+        (
+            FIRST_CONTRACT,
+            &[0],
+            FIRST_CONTRACT,
+            "an implicit account's address",
+        ),
+        (
+            SECOND_CONTRACT + 21,
+            &[1],
+            SECOND_CONTRACT,
+            "an address again",
+        ),
+        (
+            FIRST_TEXT + 13,
+            b"\n",
+            FIRST_LENGTH,
+            "a text that isn't printed so",
+        ),
+        (
+            FIRST_TEXT + 24,
+            b"nat",
+            FIRST_LENGTH,
+            "a script that isn't typed",
+        ),
         (SECOND_TEXT, b"q", SECOND_LENGTH, "a text of no script"),
         (ACCOUNT + 1, &[1], ACCOUNT_VALUE, "a balance of no contract"),
         (ACCOUNT_VALUE + 1, &none, ACCOUNT_VALUE, "a balance of 0"),
         (BALANCE_VALUE + 1, &all, BALANCE_VALUE, "a supply of 2^63"),
         (BALANCE + 1, &address(0, 10), BALANCE, "a cell again"),
         (FIRST_VALUE, &[4], FIRST_VALUE, "a storage of another type"),
-        (SECOND_VALUE + 1, &[1], SECOND_VALUE, "a big map at another place"),
+        (
+            SECOND_VALUE + 1,
+            &[1],
+            SECOND_VALUE,
+            "a big map at another place",
+        ),
         (KEY, &[15], KEY, "a key with a list"),
         (CELLS, &four, ENTRY, "a cell too many"),
     ];
     for (at, field, place, case) in table {
         let bytes = changed(alloc, at, field)?;
-        assert_eq!(rt; told(alloc, &bytes), Some(FieldFault::At(At(place))), "{case}");
+        assert_eq!(rt;
+            told(alloc, &bytes),
+            Some(FieldFault::At(At(place))),
+            "{case}"
+        );
     }
     Ok(())
 }
@@ -275,7 +301,9 @@ fn book(alloc: Global) -> Result<Book, Fail> {
     let mut book = Book::new(alloc);
     let script = read_script(alloc, COUNTER).ok().ok_or("not read")?;
     let typed = check(alloc, script).ok().ok_or("not typed")?;
-    book.add(alloc, named(1, 1)?, typed).ok().ok_or("not added")?;
+    book.add(alloc, named(1, 1)?, typed)
+        .ok()
+        .ok_or("not added")?;
     Ok(book)
 }
 
@@ -296,7 +324,10 @@ fn the_first_reason_against_cells_is_told(rt: HostRuntime) -> Result<(), Fail> {
     assert_eq!(rt; built(alloc, 1, 2)?, Some(BuildFault::Misfit(0)));
     assert_eq!(rt; built(alloc, 0, 1)?, Some(BuildFault::Misfit(1)));
     assert_eq!(rt; built(alloc, 1, 1)?, Some(BuildFault::Twice(3)));
-    assert_eq!(rt; built(alloc, (1 << 63) - 1, 1)?, Some(BuildFault::TooMuch(2)));
+    assert_eq!(rt;
+        built(alloc, (1 << 63) - 1, 1)?,
+        Some(BuildFault::TooMuch(2))
+    );
     let head = Head { level: 0, now: 0 };
     let bare = State::build(alloc, head, book(alloc)?, Vec::new(alloc)).err();
     assert_eq!(rt; bare, Some(BuildFault::NoStorage(named(1, 1)?)));
