@@ -12,3 +12,4 @@ pub mod Covering
 pub mod Swapping
 pub mod Reordering
 pub mod JoinOrders
+pub mod Running

@@ -11,3 +11,4 @@ pub mod Serial
 pub mod Laws
 pub mod Alike
 pub mod Orders
+pub mod Runs

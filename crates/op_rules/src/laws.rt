@@ -1,6 +1,6 @@
 //! What is true of operations, whoever runs them.
 
-ghost use Rattle.std.specs.Prelude.{◌≡◌, ◌↔◌, IsTrue, List, ℕ, map};
+ghost use Rattle.std.specs.Prelude.{◌≡◌, ◌↔◌, ◌++◌, ◌∷◌, [], IsTrue, List, ℕ, map};
 ghost use Rattle.std.specs.FinMap.{get};
 ghost use Rattle.value_core.specs.declared.ty.Ty.{Ty};
 ghost use Rattle.value_core.specs.declared.val.Val.{Val};
@@ -23,8 +23,9 @@ ghost use Rattle.op_rules.specs.Course.{Course, Failed, footprint_of};
 ghost use Rattle.op_rules.specs.Orders.{Entry, IsOrderOf, KeepsConflicts, Respects, RunsTo, entries_in, numbered};
 ghost use Rattle.op_rules.specs.Laws.{ChangesAreTouched, GetsReplies};
 ghost use Rattle.op_rules.specs.Replies.{BeginWith, Gives};
+ghost use Rattle.op_rules.specs.Runs.{ChangesAreInFootprints, IsOfNone, IsOfOne, IsOneAfterTheOther, TellsOfEach};
 ghost use Rattle.op_rules.specs.SameType.{is_same_type};
-ghost use Rattle.op_rules.specs.Serial.{cells_after, serial};
+ghost use Rattle.op_rules.specs.Serial.{cells_after, run_all, serial};
 ghost use Rattle.op_rules.specs.SerialRule.{transfers};
 ghost use Rattle.op_rules.specs.Worlds.{map_at};
 
@@ -119,4 +120,35 @@ pub fn an_operation_keeps_the_supply()
 pub fn a_changed_cell_is_in_the_footprint()
     ensures { (book : Contracts) (head : Head) (op : Op) (opening : Contents)
         → ChangesAreTouched opening (serial book head op opening) }
+{}
+
+/// A run goes on where it was cut, with what the operations before left: so a run is its operations,
+/// one after another.
+pub fn a_run_goes_on_where_it_was_cut()
+    ensures none { (book : Contracts) (head : Head) (opening : Contents)
+        → IsOfNone opening (run_all book head [] opening) }
+    ensures one { (book : Contracts) (head : Head) (op : Op) (opening : Contents)
+        → IsOfOne opening op (serial book head op opening) (run_all book head (op ∷ []) opening) }
+    ensures cut { (book : Contracts) (head : Head) (ops others : List Op) (opening : Contents)
+        → IsOneAfterTheOther (run_all book head ops opening)
+        (run_all book head others (run_all book head ops opening).cells)
+        (run_all book head (ops ++ others) opening) }
+{}
+
+/// A run tells a receipt and a footprint of each operation.
+pub fn a_run_tells_of_each_operation()
+    ensures { (book : Contracts) (head : Head) (ops : List Op) (opening : Contents)
+        → TellsOfEach ops (run_all book head ops opening) }
+{}
+
+/// A run makes no money and loses none.
+pub fn a_run_keeps_the_supply()
+    ensures { (book : Contracts) (head : Head) (ops : List Op) (opening : Contents)
+        → supply (run_all book head ops opening).cells ≡ supply opening }
+{}
+
+/// A cell that a run changes stands in the footprint of some operation, credited or owned.
+pub fn a_cell_that_a_run_changes_is_in_a_footprint()
+    ensures { (book : Contracts) (head : Head) (ops : List Op) (opening : Contents)
+        → ChangesAreInFootprints opening (run_all book head ops opening) }
 {}
