@@ -13,3 +13,8 @@ pub mod Swapping
 pub mod Reordering
 pub mod JoinOrders
 pub mod Running
+pub mod EnteredCalls
+pub mod CalledCodes
+pub mod Flights
+pub mod FitAlong
+pub mod LawfulLedgers

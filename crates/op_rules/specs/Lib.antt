@@ -12,3 +12,4 @@ pub mod Laws
 pub mod Alike
 pub mod Orders
 pub mod Runs
+pub mod Ledgers

@@ -1,7 +1,8 @@
 //! What is true of operations, whoever runs them.
 
-ghost use Rattle.std.specs.Prelude.{◌≡◌, ◌↔◌, ◌++◌, ◌∷◌, [], IsTrue, List, ℕ, map};
+ghost use Rattle.std.specs.Prelude.{◌≡◌, ◌↔◌, ◌++◌, ◌∷◌, [], IsTrue, List, ℕ, map, true};
 ghost use Rattle.std.specs.FinMap.{get};
+ghost use Rattle.std.specs.List.{AllByRecursion};
 ghost use Rattle.value_core.specs.declared.ty.Ty.{Ty};
 ghost use Rattle.value_core.specs.declared.val.Val.{Val};
 ghost use Rattle.michelson_code.specs.declared.script.Script.{Script};
@@ -10,11 +11,15 @@ ghost use Rattle.michelson_rules.specs.declared.ask.Budget.{Budget};
 ghost use Rattle.michelson_rules.specs.declared.ask.Env.{Env};
 ghost use Rattle.michelson_rules.specs.Metered.{script_outcome};
 ghost use Rattle.michelson_rules.specs.World.{World};
+ghost use Rattle.cell_names.specs.declared.access.Access.{Access};
 ghost use Rattle.cell_names.specs.declared.cell.Cell.TheVariants as cell;
 ghost use Rattle.cell_names.specs.declared.head.Head.{Head};
+ghost use Rattle.cell_names.specs.Conditions.{Seen};
 ghost use Rattle.cell_names.specs.Contents.{Contents};
 ghost use Rattle.cell_names.specs.Supply.{supply};
-ghost use Rattle.code_book.specs.Books.{Contracts};
+ghost use Rattle.code_book.specs.Books.{Contracts, IsBook};
+ghost use Rattle.code_book.specs.Fits.{fits_access};
+ghost use Rattle.code_book.specs.Ownership.{IsBookOf};
 ghost use Rattle.join_schedule.specs.Cover.{Cover};
 ghost use Rattle.op_rules.specs.declared.op.Op.{Op};
 ghost use Rattle.op_rules.specs.declared.transfer.Transfer.{Transfer};
@@ -22,7 +27,9 @@ ghost use Rattle.op_rules.specs.Alike.{AgreeWhereSeen, AnswerAlike, IsSame, MayB
 ghost use Rattle.op_rules.specs.Course.{Course, Failed, footprint_of};
 ghost use Rattle.op_rules.specs.Orders.{Entry, IsOrderOf, KeepsConflicts, Respects, RunsTo, entries_in, numbered};
 ghost use Rattle.op_rules.specs.Laws.{ChangesAreTouched, GetsReplies};
-ghost use Rattle.op_rules.specs.Replies.{BeginWith, Gives};
+ghost use Rattle.op_rules.specs.Ledgers.{AreLedgerCells, MakesFit};
+ghost use Rattle.op_rules.specs.Operations.{IsLawful};
+ghost use Rattle.op_rules.specs.Replies.{AreLawful, BeginWith, Gives};
 ghost use Rattle.op_rules.specs.Runs.{ChangesAreInFootprints, IsOfNone, IsOfOne, IsOneAfterTheOther, TellsOfEach};
 ghost use Rattle.op_rules.specs.SameType.{is_same_type};
 ghost use Rattle.op_rules.specs.Serial.{cells_after, run_all, serial};
@@ -151,4 +158,32 @@ pub fn a_run_keeps_the_supply()
 pub fn a_cell_that_a_run_changes_is_in_a_footprint()
     ensures { (book : Contracts) (head : Head) (ops : List Op) (opening : Contents)
         → ChangesAreInFootprints opening (run_all book head ops opening) }
+{}
+
+/// On lawful cells of a book an operation makes fit accesses alone: what it writes has the types of
+/// its cell, who is credited may have money, and no credit is above what is in flight. Where it is
+/// applied nothing is left in flight.
+pub fn an_operation_makes_fit_accesses()
+    ensures { (book : Contracts) (head : Head) (op : Op) (opening : Contents) → IsBook book
+        → IsLawful op → AreLawful book opening 0 → MakesFit book (serial book head op opening) }
+{}
+
+/// Of the cells of a ledger an operation leaves the cells of a ledger, of the same book.
+pub fn an_operation_leaves_a_lawful_ledger()
+    ensures { (book : Contracts) (head : Head) (op : Op) (opening : Contents) → IsBook book
+        → IsLawful op → AreLedgerCells book opening
+        → AreLedgerCells book (cells_after opening (serial book head op opening)) }
+{}
+
+/// Of the cells of a ledger a run of operations leaves the cells of a ledger, of the same book.
+pub fn a_run_leaves_a_lawful_ledger()
+    ensures { (book : Contracts) (head : Head) (ops : List Op) (opening : Contents) → IsBook book
+        → AllByRecursion IsLawful ops → AreLedgerCells book opening
+        → AreLedgerCells book (run_all book head ops opening).cells }
+{}
+
+/// A book is that of each store that has the cells of a ledger and allows the accesses that fit.
+pub fn a_ledger_is_its_books()
+    ensures { (book : Contracts) (seen : Seen) → AreLedgerCells book seen.cells → seen.flight ≡ 0
+        → ((a : Access) → fits_access book a ≡ true → seen.fits a ≡ true) → IsBookOf book seen }
 {}

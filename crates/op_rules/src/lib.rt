@@ -25,12 +25,14 @@ mod transfer;
 pub use batch::Batch;
 pub use laws::{
     a_big_map_has_what_its_cells_have, a_cell_that_a_run_changes_is_in_a_footprint,
-    a_changed_cell_is_in_the_footprint, a_failed_operation_changes_nothing,
-    a_run_goes_on_where_it_was_cut, a_run_keeps_the_supply, a_run_tells_of_each_operation,
-    an_operation_is_its_accesses, an_operation_keeps_the_supply, an_operation_turns_on_its_replies,
-    an_operation_turns_on_what_it_sees, neighbours_that_never_conflict_may_be_swapped,
-    orders_that_keep_conflicts_have_one_run, orders_that_respect_joins_have_one_run,
-    same_types_are_equal, transfers_only_add_accesses, worlds_that_answer_alike_run_alike,
+    a_changed_cell_is_in_the_footprint, a_failed_operation_changes_nothing, a_ledger_is_its_books,
+    a_run_goes_on_where_it_was_cut, a_run_keeps_the_supply, a_run_leaves_a_lawful_ledger,
+    a_run_tells_of_each_operation, an_operation_is_its_accesses, an_operation_keeps_the_supply,
+    an_operation_leaves_a_lawful_ledger, an_operation_makes_fit_accesses,
+    an_operation_turns_on_its_replies, an_operation_turns_on_what_it_sees,
+    neighbours_that_never_conflict_may_be_swapped, orders_that_keep_conflicts_have_one_run,
+    orders_that_respect_joins_have_one_run, same_types_are_equal, transfers_only_add_accesses,
+    worlds_that_answer_alike_run_alike,
 };
 pub use limits::{MOST_CALLS, MOST_DEPTH, MOST_GAS, MOST_ROOM, MOST_SIZE, MOST_TURNS};
 pub use op::{Op, lawful};
