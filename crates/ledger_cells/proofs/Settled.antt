@@ -27,8 +27,12 @@ settled s o cells slots = λ i. record { book = s.book; cells = cells i; flight 
 
 -- ---- cells that are alike
 
-pub alike : (s t : LedgerCells) (b : Bool) (x y : List Held) → s.flight ≡ t.flight → s.book ≡ t.book → (IsTrue b ↔ (x ≡ y)) → x ≡ entries s.cells → y ≡ entries t.cells → IsTrue b ↔ AreAlike s t
-alike s t b x y flight book rows xs ys = (
-  λ is. record { book = book; cells = same_entries_map s.cells t.cells (sym xs ∙ rows.0 is ∙ ys); flight = flight },
-  λ are. rows.1 (xs ∙ ap (λ (m : Contents). entries m) are.cells ∙ sym ys),
+-- walks over cells are the same exactly where the cells are
+pub holds_same : (m n : Contents) (b : Bool) (x y : List Held) → (IsTrue b ↔ (x ≡ y)) → x ≡ entries m → y ≡ entries n → IsTrue b ↔ (m ≡ n)
+holds_same m n b x y rows xs ys = (
+  λ is. same_entries_map m n (sym xs ∙ rows.0 is ∙ ys),
+  λ are. rows.1 (xs ∙ ap (λ (o : Contents). entries o) are ∙ sym ys),
 )
+
+pub alike : (s t : LedgerCells) (b : Bool) → s.flight ≡ t.flight → s.book ≡ t.book → (IsTrue b ↔ (s.cells ≡ t.cells)) → IsTrue b ↔ AreAlike s t
+alike s t b flight book holds = (λ is. record { book = book; cells = holds.0 is; flight = flight }, λ are. holds.1 are.cells)

@@ -170,8 +170,13 @@ impl Cells {
     pub fn same(&self, other: &Cells) -> bool
         ensures { IsTrue result ↔ AreAlike self.now other.now }
     {
-        self.flight == other.flight
-            && self.book.same(&other.book)
-            && same_rows(self.overlay.walk(), other.overlay.walk())
+        self.flight == other.flight && self.book.same(&other.book) && self.holds_same(other)
+    }
+
+    /// Whether the same stands in all cells of both, whatever their books and what is in flight.
+    pub fn holds_same(&self, other: &Cells) -> bool
+        ensures { IsTrue result ↔ (self.now.cells ≡ other.now.cells) }
+    {
+        same_rows(self.overlay.walk(), other.overlay.walk())
     }
 }

@@ -1,5 +1,5 @@
 -- Which cells may be added, as the reader, the fold and the cells themselves say it.
-use Rattle.std.proofs.Common.{◌≡◌, ℕ, ◌+◌, ◌<◌, ◌≤◌, ◌^◌, Bool, true, false, List, Option, Some, None, ◌⊎◌, inl, inr, refl, sym, ap, subst, ◌∙◌, arith}
+use Rattle.std.proofs.Common.{◌≡◌, ℕ, ◌+◌, ◌<◌, ◌≤◌, ◌^◌, Bool, true, false, Option, Some, None, ◌⊎◌, inl, inr, refl, sym, ap, ◌∙◌, arith}
 use Rattle.std.specs.Prelude.{not, ◌&&◌, is_some, nat_le, nat_lt, if◌then◌else◌}
 use Rattle.std.specs.Option.{option_map}
 use Rattle.std.specs.FinMap.{contains_key, get}
@@ -12,7 +12,6 @@ use Rattle.ledger_cells.specs.LedgerCells.{LedgerCells, money}
 use Rattle.ledger_cells.specs.Placing.{IsTold, misplaced}
 use Rattle.ledger_cells.specs.declared.fault.AddEnd.{AddEnd}
 use Rattle.ledger_cells.specs.declared.fault.AddEnd.TheVariants as ends
-use Rattle.ledger_state.specs.declared.fault.BuildFault.{BuildFault}
 use Rattle.ledger_state.specs.declared.fault.BuildFault.TheVariants as faults
 use Rattle.ledger_state.specs.Building.{against}
 use Rattle.ledger_state.specs.Inside.{told_at}

@@ -1,15 +1,14 @@
 -- The law of contracts: what is read is a book of scripts that may run, and is spelt so.
 use Rattle.std.proofs.Common.{◌≡◌, ℕ, ◌<◌, ◌≤◌, ◌^◌, Bool, true, false, List, [], ◌∷◌, ◌++◌, length, Option, Some, None, refl, sym, ap, subst, ◌∙◌, arith}
-use Rattle.std.specs.Prelude.{IsTrue, not, ◌&&◌, nat_le}
+use Rattle.std.specs.Prelude.{IsTrue, not, nat_le}
 use Rattle.std.specs.List.{flat_map, AllByRecursion}
 use Rattle.std.specs.Int.{w32, to_be_bytes}
 use Rattle.std.specs.Ordering.{nat_cmp}
 use Rattle.std.specs.Cmp.{IsTotalOrder}
 use Rattle.std.specs.Cmp.Lexicographic.{slice_cmp, nat_list_cmp_total}
 use Rattle.std.specs.declared.cmp.Ordering.{Ordering}
-use Rattle.std.specs.FinMap.{FinMap, IsAntisymmetric, nat_cmp-IsAntisymmetric, slice_cmp-IsAntisymmetric, get, len, entries, entries_sorted, entries-from_sorted, from_sorted, is_sorted, len-entries, same_entries_map}
+use Rattle.std.specs.FinMap.{IsAntisymmetric, nat_cmp-IsAntisymmetric, slice_cmp-IsAntisymmetric, len, entries, entries_sorted, entries-from_sorted, from_sorted, is_sorted, len-entries, same_entries_map}
 use Rattle.std.proofs.lemmas.Bool.{leb-true, le-leb}
-use Rattle.byte_fields.specs.Readers.{number, made, both, with, checked, chained}
 use Rattle.byte_fields.specs.Laws.{AllAlong, Reads}
 use Rattle.byte_fields.proofs.Digits.{wide32}
 use Rattle.byte_fields.proofs.Joined.{both_reads, checked_reads, made_reads, with_reads}

@@ -1,18 +1,15 @@
 -- What is built of cells: the contents that they are, where there is no reason against them, or the first reason.
-use Rattle.std.proofs.Common.{◌≡◌, ℕ, ◌+◌, ◌<◌, ◌≤◌, ◌^◌, Bool, true, false, cond, List, [], ◌∷◌, ◌++◌, length, take, Option, Some, None, Result, Ok, Err, refl, sym, ap, subst, ◌∙◌, arith}
-use Rattle.std.specs.Prelude.{is_some, if◌then◌else◌, slice_get}
-use Rattle.std.specs.declared.cmp.Ordering.{Ordering}
+use Rattle.std.proofs.Common.{◌≡◌, ℕ, ◌+◌, ◌<◌, ◌≤◌, ◌^◌, true, false, cond, List, [], ◌∷◌, take, Option, Some, None, Result, Ok, Err, refl, sym, ap, subst, ◌∙◌, arith}
+use Rattle.std.specs.Prelude.{is_some, if◌then◌else◌}
 use Rattle.std.specs.declared.cmp.Ordering.TheVariants.{Less, Equal, Greater}
 use Rattle.std.specs.Ordering.{eq_by_cmp}
 use Rattle.std.specs.FinMap.{contains_key, empty, entries, find, get, get-entries, is_sorted}
 use Rattle.value_core.proofs.Bools.{first_true, second_true}
 use Rattle.value_core.specs.declared.val.Val.{Val}
 use Rattle.michelson_code.specs.declared.script.Script.{Script}
-use Rattle.cell_names.specs.declared.cell.Cell.{Cell}
 use Rattle.cell_names.specs.declared.cell.Cell.TheVariants.{Storage}
 use Rattle.cell_names.specs.Contents.{Contents}
 use Rattle.code_book.specs.Books.{Contracts}
-use Rattle.code_book.specs.Fits.{fits}
 use Rattle.ledger_state.specs.declared.fault.BuildFault.{BuildFault}
 use Rattle.ledger_state.specs.declared.fault.BuildFault.TheVariants.{Misfit, Twice, TooMuch, NoStorage, NoMemory}
 use Rattle.ledger_state.specs.Building.{added, built, housed, housed_by}
@@ -21,7 +18,7 @@ use Rattle.ledger_state.specs.Storages.{first_bare, least_bare}
 use Rattle.ledger_state.proofs.BookLaws.{Row, by_bytes, total, ties}
 use Rattle.ledger_state.proofs.CellLaws.{Held, money}
 use Rattle.ledger_state.proofs.Entries.{apart_from, first_found, found_behind, greater_is, sorted, tie_of}
-use Rattle.ledger_state.proofs.FirstReason.{AreAdded, Outcome, added_outcome, standing}
+use Rattle.ledger_state.proofs.FirstReason.{AreAdded, Outcome, added_outcome}
 
 -- ---- the first contract without a storage
 

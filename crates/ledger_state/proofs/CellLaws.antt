@@ -1,12 +1,12 @@
 -- The law of cells with their values: what is read fits its cells and is spelt so.
-use Rattle.std.proofs.Common.{◌≡◌, ℕ, ◌+◌, ◌<◌, ◌≤◌, ◌^◌, Bool, true, List, [], ◌∷◌, ◌++◌, length, Option, Some, None, refl, sym, ap, subst, ◌∙◌, arith}
-use Rattle.std.specs.Prelude.{IsTrue, ◌&&◌, map, sum, nat_lt}
+use Rattle.std.proofs.Common.{◌≡◌, ℕ, ◌+◌, ◌<◌, ◌^◌, true, List, [], ◌∷◌, ◌++◌, length, Option, Some, None, refl, sym, ap, subst, ◌∙◌, arith}
+use Rattle.std.specs.Prelude.{IsTrue, map, sum}
 use Rattle.std.specs.List.{flat_map, AllByRecursion}
 use Rattle.std.specs.Int.{w32, to_be_bytes}
 use Rattle.std.specs.FinMap.{get, len, entries, entries_sorted, entries-from_sorted, from_sorted, is_sorted, len-entries, same_entries_map}
 use Rattle.std.proofs.lemmas.Bool.{ltb-true, lt-ltb}
 use Rattle.std.proofs.lemmas.List.Sums.{sum_by-cons}
-use Rattle.byte_fields.specs.Readers.{Reader, number, made, with, checked, chained}
+use Rattle.byte_fields.specs.Readers.{made, checked}
 use Rattle.byte_fields.specs.Laws.{AllAlong, Reads}
 use Rattle.byte_fields.proofs.Digits.{wide32}
 use Rattle.byte_fields.proofs.Joined.{checked_reads, made_reads, with_reads}
@@ -21,14 +21,14 @@ use Rattle.cell_names.specs.declared.cell.Cell.{Cell}
 use Rattle.cell_names.specs.Cells.{cell_cmp}
 use Rattle.cell_names.specs.CellOrder.{cell_cmp-total, cell_cmp-ties}
 use Rattle.cell_names.specs.Contents.{Contents}
-use Rattle.cell_names.specs.Reading.{cell, is_above}
+use Rattle.cell_names.specs.Reading.{is_above}
 use Rattle.cell_names.specs.Spelling.{IsCell}
 use Rattle.cell_names.specs.Supply.{money_of, supply}
 use Rattle.cell_names.proofs.Grammar.{cell_reads}
 use Rattle.code_book.specs.Books.{Contracts}
 use Rattle.code_book.specs.Fits.{fits}
 use Rattle.ledger_state.specs.Spelling.{AreSpelt, spell_cells, spell_held}
-use Rattle.ledger_state.specs.Reading.{Before, held, may_stand, next, rows, start, value_in}
+use Rattle.ledger_state.specs.Reading.{Before, held, may_stand, next, rows, start}
 use Rattle.ledger_state.proofs.Entries.{is_over, are_over, are_over-nil, are_over-cons, first_over, each_held, held_each, sorted}
 
 -- a cell with its value

@@ -1,10 +1,9 @@
 -- One more cell that is read and added, as a loop goes from one to the next.
-use Rattle.std.proofs.Common.{◌≡◌, ℕ, ◌+◌, ◌-◌, ◌<◌, Bool, true, List, [], ◌∷◌, ◌++◌, Option, Some, None, Result, Ok, Err, refl, sym, ap, subst, ◌∙◌}
+use Rattle.std.proofs.Common.{◌≡◌, ℕ, ◌+◌, ◌-◌, ◌<◌, true, List, ◌∷◌, Option, Some, None, Ok, refl, sym, ap, subst, ◌∙◌}
 use Rattle.std.specs.List.{list_all, AllByRecursion}
 use Rattle.std.specs.Ordering.{is_lt}
 use Rattle.std.specs.FinMap.{empty, entries, get, insert}
-use Rattle.byte_fields.specs.Readers.{Read, Reader, after, chained, checked, made, with}
-use Rattle.byte_fields.specs.Stops.{Faulty, Stop, Stopped}
+use Rattle.byte_fields.specs.Readers.{Read, Reader, chained}
 use Rattle.byte_fields.proofs.Loops.{goes_on, with_front}
 use Rattle.value_core.specs.declared.val.Val.{Val}
 use Rattle.value_codec.specs.Spelling.{IsSpelt}
@@ -14,12 +13,11 @@ use Rattle.cell_names.specs.CellOrder.{cell_cmp-total, cell_cmp-ties}
 use Rattle.cell_names.specs.Contents.{Contents}
 use Rattle.cell_names.specs.Reading.{is_above}
 use Rattle.cell_names.specs.Spelling.{IsCell}
-use Rattle.cell_names.specs.Supply.{money_of, supply}
 use Rattle.code_book.specs.Books.{Contracts}
 use Rattle.code_book.specs.Fits.{fits}
 use Rattle.ledger_cells.specs.LedgerCells.{AreLawful, LedgerCells}
 use Rattle.ledger_state.specs.Inside.{IsLast, IsReadInto, before}
-use Rattle.ledger_state.specs.Reading.{Before, held, next, start}
+use Rattle.ledger_state.specs.Reading.{Before, held, next}
 use Rattle.ledger_state.specs.Spelling.{AreSpelt}
 use Rattle.ledger_state.proofs.CellLaws.{Held}
 use Rattle.ledger_state.proofs.Entries.{each_held, held_each}

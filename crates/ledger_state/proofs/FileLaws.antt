@@ -1,8 +1,8 @@
 -- The law of the whole file: what is read can be stored and is spelt so, and what can be stored is read from its spelling.
-use Rattle.std.proofs.Common.{◌≡◌, ℕ, ◌<◌, ◌^◌, List, ◌++◌, refl, sym, ap, ◌∙◌}
+use Rattle.std.proofs.Common.{◌≡◌, ℕ, ◌<◌, ◌^◌, ◌++◌, refl, sym}
 use Rattle.std.specs.Prelude.{IsTrue}
 use Rattle.std.specs.Int.{w32, w64, to_be_bytes}
-use Rattle.byte_fields.specs.Readers.{Reader, number, behind, with}
+use Rattle.byte_fields.specs.Readers.{number, with}
 use Rattle.byte_fields.specs.Laws.{Reads, ReadsWhole}
 use Rattle.byte_fields.proofs.Digits.{wide32, wide64}
 use Rattle.byte_fields.proofs.Joined.{checked_reads, made_reads, reads_as, with_reads}

@@ -1,16 +1,11 @@
 -- What comes of cells that are added one after another: all of them, or the first reason against them.
-use Rattle.std.proofs.Common.{◌≡◌, ℕ, zero, suc, ◌+◌, ◌*◌, ◌<◌, ◌≤◌, ◌^◌, Bool, true, false, cond, List, [], ◌∷◌, ◌++◌, length, take, Option, Some, None, Result, Ok, Err, ◌⊎◌, inl, inr, refl, sym, ap, subst, ◌∙◌, append_assoc, arith}
-use Rattle.std.specs.Prelude.{not, is_some, map, sum, nat_le, if◌then◌else◌, slice_get}
-use Rattle.std.specs.List.{AllByRecursion}
-use Rattle.std.specs.declared.cmp.Ordering.{Ordering}
-use Rattle.std.specs.declared.cmp.Ordering.TheVariants.{Less}
-use Rattle.std.specs.FinMap.{contains_key, empty, entries, get, get-empty, get-entries, get-insert, find, insert, is_sorted}
+use Rattle.std.proofs.Common.{◌≡◌, ℕ, zero, suc, ◌+◌, ◌<◌, ◌≤◌, ◌^◌, true, false, cond, List, [], ◌∷◌, ◌++◌, length, take, Option, Some, None, Result, Ok, Err, ◌⊎◌, inl, inr, refl, sym, ap, subst, ◌∙◌, append_assoc, arith}
+use Rattle.std.specs.Prelude.{not, is_some, nat_le, if◌then◌else◌, slice_get}
+use Rattle.std.specs.FinMap.{contains_key, empty, get, get-empty, get-insert, insert}
 use Rattle.std.proofs.lemmas.Bool.{cases_lt, leb-true, leb-false}
 use Rattle.std.proofs.lemmas.List.{append-nil, length-append, take-append-le, take_all}
 use Rattle.value_core.specs.declared.val.Val.{Val}
-use Rattle.michelson_code.specs.declared.script.Script.{Script}
 use Rattle.cell_names.specs.declared.cell.Cell.{Cell}
-use Rattle.cell_names.specs.declared.cell.Cell.TheVariants.{Storage}
 use Rattle.cell_names.specs.Cells.{cell_cmp}
 use Rattle.cell_names.specs.CellOrder.{cell_cmp-total}
 use Rattle.cell_names.specs.Contents.{Contents}

@@ -1,6 +1,6 @@
 -- Values that fit their cells: no balance of 0 stands, and all of them and their cells have spellings.
-use Rattle.std.proofs.Common.{◌≡◌, ℕ, zero, suc, ◌+◌, ◌<◌, ◌≤◌, ◌^◌, Bool, true, false, List, Option, Some, None, refl, sym, ap, subst, ◌∙◌, arith}
-use Rattle.std.specs.Prelude.{IsTrue, ◌&&◌, nat_lt, nat_le, slice_get, length}
+use Rattle.std.proofs.Common.{◌≡◌, ℕ, zero, suc, ◌<◌, ◌≤◌, ◌^◌, true, Option, Some, None, refl, sym, ap, subst, ◌∙◌, arith}
+use Rattle.std.specs.Prelude.{◌&&◌, nat_lt, nat_le, slice_get, length}
 use Rattle.std.specs.FinMap.{get}
 use Rattle.std.proofs.Math.Bool.{Bool-set}
 use Rattle.std.proofs.Math.Logic.{∥∥₁_elim}
@@ -11,12 +11,12 @@ use Rattle.value_core.specs.declared.val.Val.TheOpen as one
 use Rattle.value_core.specs.declared.val.Val.TheViews.{out-Val, roll-Val}
 use Rattle.value_core.specs.declared.ty.Ty.{Ty}
 use Rattle.value_core.specs.Layer.{Layer}
-use Rattle.value_core.specs.BigMaps.{big_maps_of, is_placed}
+use Rattle.value_core.specs.BigMaps.{big_maps_of}
 use Rattle.value_core.specs.Depth.{depth_of, depth_of_type}
 use Rattle.value_core.specs.Nodes.{nodes_of}
 use Rattle.value_core.specs.Sound.{is_plain, is_sound}
-use Rattle.value_core.specs.Typed.{fits as builds, has_type}
-use Rattle.value_core.proofs.Bools.{both_true, first_true, second_true}
+use Rattle.value_core.specs.Typed.{has_type}
+use Rattle.value_core.proofs.Bools.{first_true, second_true}
 use Rattle.value_core.proofs.Levels.{out-roll, roll-out}
 use Rattle.value_core.proofs.PlainTyped.{passable_is_plain, plain_within}
 use Rattle.value_laws.proofs.DepthEquations as depths
@@ -26,10 +26,10 @@ use Rattle.michelson_code.specs.TypedScript.{IsTypedScript}
 use Rattle.michelson_code.specs.WrittenTypes.{has_comparable_keys, has_passable_values, has_placed_big_maps, has_storage_big_maps, is_within_limits}
 use Rattle.cell_names.specs.declared.cell.Cell.{Cell}
 use Rattle.cell_names.specs.declared.cell.Cell.TheVariants.{Balance, Storage, Entry}
-use Rattle.cell_names.specs.Contents.{Contents, IsTidy, amount_in, amount_kept, amount_level, amount_of, balance}
+use Rattle.cell_names.specs.Contents.{Contents, IsTidy, amount_in, amount_kept, amount_level, amount_of}
 use Rattle.cell_names.specs.Spelling.{CanBeSpelt, IsNamed}
 use Rattle.code_book.specs.Books.{Contracts, IsBook, has_account}
-use Rattle.code_book.specs.Fits.{fits, fits_big_map, fits_entry, fits_storage, is_balance, is_balance_level, is_kept_as}
+use Rattle.code_book.specs.Fits.{fits, fits_big_map, fits_entry, fits_storage, is_balance, is_balance_level}
 use Rattle.ledger_state.proofs.StorageTypes.{comparable_is_low, comparable_is_passable, storage_map}
 
 -- ---- balances

@@ -1,8 +1,8 @@
 -- The law of what is found by what is read, and of texts with their length before them.
-use Rattle.std.proofs.Common.{◌≡◌, ℕ, ◌<◌, ◌≤◌, ◌^◌, List, ◌++◌, length, Option, Some, None, Ok, Err, refl, sym, ap, subst, ◌∙◌, arith}
+use Rattle.std.proofs.Common.{◌≡◌, ℕ, ◌<◌, ◌≤◌, ◌^◌, List, ◌++◌, length, Option, Some, None, Ok, refl, sym, ap, subst, arith}
 use Rattle.std.specs.Int.{w32, to_be_bytes}
-use Rattle.byte_fields.specs.Readers.{Read, Reader}
-use Rattle.byte_fields.specs.Laws.{IsBytes, Takes, IsWithin, Reads}
+use Rattle.byte_fields.specs.Readers.{Reader}
+use Rattle.byte_fields.specs.Laws.{Takes, IsWithin, Reads}
 use Rattle.byte_fields.proofs.Digits.{wide32}
 use Rattle.byte_fields.proofs.Joined.{reads_as, with_reads}
 use Rattle.byte_fields.proofs.Numbers.{number_reads, run_reads}

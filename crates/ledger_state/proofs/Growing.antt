@@ -1,10 +1,7 @@
 -- One more contract, or one more cell, behind all that were read.
-use Rattle.std.proofs.Common.{◌≡◌, ℕ, ◌+◌, ◌-◌, ◌<◌, Bool, true, false, List, [], ◌∷◌, ◌++◌, length, Option, Some, None, Result, Ok, Err, refl, sym, ap, subst, ◌∙◌, arith}
-use Rattle.std.specs.Prelude.{map, sum}
-use Rattle.std.specs.Ordering.{is_lt}
+use Rattle.std.proofs.Common.{◌≡◌, ℕ, ◌+◌, ◌-◌, ◌<◌, true, List, [], ◌∷◌, ◌++◌, length, Option, Some, None, Result, Ok, Err, refl, sym, ap, ◌∙◌, arith}
 use Rattle.std.specs.FinMap.{empty, entries, entries-from_sorted, entries_sorted, from_sorted, get, insert, len-empty, len-entries, same_entries_map, FinMap}
 use Rattle.std.specs.declared.cmp.Ordering.{Ordering}
-use Rattle.std.proofs.lemmas.List.{append-nil, map-append}
 use Rattle.value_core.proofs.PlaceLemmas.{is_Less}
 use Rattle.byte_fields.specs.Stops.{Stop}
 use Rattle.byte_fields.specs.Readers.{Read, Reader, after, chained, made}
@@ -22,7 +19,7 @@ use Rattle.code_book.specs.Books.{Contracts}
 use Rattle.ledger_state.specs.BookReading.{contract, is_above_address, next_address}
 use Rattle.ledger_state.proofs.BookLaws.{Row, by_bytes, total}
 use Rattle.ledger_state.proofs.CellLaws.{Held, money, money-cons}
-use Rattle.ledger_state.proofs.Entries.{are_below, are_below-less, are_below-push, insert_last, is_over, none_held}
+use Rattle.ledger_state.proofs.Entries.{are_below, are_below-less, are_below-push, insert_last, none_held}
 
 no_items : {A : Type 0} (es : List A) → length es ≡ 0 → es ≡ []
 no_items [] e = refl

@@ -1,5 +1,5 @@
 -- The script that a text is: it may run, and the text is its printed one.
-use Rattle.std.proofs.Common.{◌≡◌, ◌≢◌, ℕ, ◌<◌, ◌^◌, Bool, true, false, cond, List, length, Option, Some, None, Result, Ok, Err, ◌⊎◌, inl, inr, refl, sym, ap, subst, ◌∙◌}
+use Rattle.std.proofs.Common.{◌≡◌, ◌≢◌, ℕ, ◌<◌, ◌^◌, Bool, true, false, List, length, Option, Some, None, Result, Ok, Err, ◌⊎◌, inl, inr, refl, sym, ap, subst, ◌∙◌}
 use Rattle.std.specs.Prelude.{◌&&◌, ◌↔◌, bytes_eq, if◌then◌else◌, IfOk, OnOk}
 use Rattle.std.specs.List.{list_all}
 use Rattle.std.proofs.Math.Bool.{Bool-set}
@@ -16,7 +16,6 @@ use Rattle.michelson_code.specs.declared.script.Script.{Script}
 use Rattle.michelson_code.specs.declared.type_fault.TypeKind.{TypeKind}
 use Rattle.michelson_code.specs.FirstFault.{ScriptFault}
 use Rattle.michelson_code.specs.TypedScript.{IsTypedScript}
-use Rattle.michelson_code.specs.Brackets.{script_brackets}
 use Rattle.michelson_code.specs.Printable.{IsPrintableScript, are_entries_of, is_fit}
 use Rattle.michelson_code.specs.declared.typed.Typed.{Typed}
 use Rattle.michelson_code.proofs.DecidedScript.{script_answer}

@@ -1,10 +1,10 @@
 -- What is left behind a contract or a cell, as loops go from one to the next.
-use Rattle.std.proofs.Common.{◌≡◌, ℕ, ◌+◌, ◌≤◌, Bool, true, false, List, [], ◌∷◌, ◌++◌, length, Option, Some, None, refl, sym, ap, subst, ◌∙◌, append_assoc, arith}
+use Rattle.std.proofs.Common.{◌≡◌, ℕ, ◌+◌, ◌≤◌, true, false, List, [], ◌∷◌, ◌++◌, length, Option, Some, None, refl, sym, ap, subst, ◌∙◌, append_assoc, arith}
 use Rattle.std.specs.Prelude.{if◌then◌else◌, is_some}
 use Rattle.std.specs.List.{flat_map, AllByRecursion}
 use Rattle.std.specs.Ordering.{is_lt}
 use Rattle.std.specs.Int.{w32, to_be_bytes}
-use Rattle.std.specs.FinMap.{contains_key, entries, get, get-entries, len, len-entries}
+use Rattle.std.specs.FinMap.{contains_key, entries, get-entries, len, len-entries}
 use Rattle.std.proofs.lemmas.List.{append-nil}
 use Rattle.std.proofs.lemmas.List.Concat.{flat_map-cons}
 use Rattle.value_core.proofs.PlaceLemmas.{is_Less}
@@ -18,7 +18,7 @@ use Rattle.michelson_reader.specs.Script.{IsScriptOf}
 use Rattle.ledger_state.specs.Spelling.{AreWritable, spell_book, spell_contract}
 use Rattle.ledger_state.specs.Storages.{first_bare, least_bare}
 use Rattle.ledger_state.proofs.BookLaws.{Row, by_bytes, total, ties}
-use Rattle.ledger_state.proofs.Entries.{IsLeast, each_held, from_none, from_over, is_over, least_is, none_is, sorted}
+use Rattle.ledger_state.proofs.Entries.{each_held, from_none, from_over, is_over, least_is, none_is, sorted}
 
 -- ---- what is written
 

@@ -1,6 +1,5 @@
 -- States: a head, a book, and what stands in cells.
-use Rattle.std.specs.Prelude.{◌≡◌, ℕ, ◌<◌, ◌^◌, true, List, Some, refl}
-use Rattle.std.specs.Coded.{Coded, code_by, coded_ℕ, coded×}
+use Rattle.std.specs.Prelude.{◌≡◌, ℕ, ◌<◌, ◌^◌, true, List, Some}
 use Rattle.std.specs.FinMap.{get, contains_key}
 use Rattle.value_core.specs.declared.val.Val.{Val}
 use Rattle.cell_names.specs.declared.cell.Cell.{Cell}

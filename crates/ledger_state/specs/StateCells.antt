@@ -1,12 +1,14 @@
 -- The cells of a state as a store has them.
-use Rattle.std.specs.Prelude.{◌≡◌, ℕ}
+use Rattle.std.specs.Prelude.{◌≡◌, ℕ, true}
+use Rattle.cell_names.specs.declared.access.Access.{Access}
 use Rattle.code_book.specs.Books.{Contracts}
+use Rattle.code_book.specs.Fits.{fits_access}
 use Rattle.ledger_cells.specs.LedgerCells.{LedgerCells}
 use Rattle.ledger_state.specs.Ledger.{Ledger, IsLedger}
 
--- these cells as a state's: they were made for its book, and nothing is in flight
+-- these cells as a state's: each access that is fit for its book is fit for them, and nothing is in flight
 pub record AreCellsOf (s : Ledger) (c : LedgerCells) : Type 0 where
-  pub book : c.book ≡ s.book
+  pub fit : (a : Access) → fits_access s.book a ≡ true → fits_access c.book a ≡ true
   pub cells : c.cells ≡ s.cells
   pub flight : c.flight ≡ 0
 

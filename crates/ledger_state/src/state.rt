@@ -13,7 +13,7 @@ use ledger_cells::Cells;
 use std::alloc::Global;
 use std::marker::Model;
 
-/// A head, a book, and cells that were made for the book, with nothing in flight.
+/// A head, a book, and cells that may have the book, with nothing in flight.
 #[derive(Drop)]
 pub struct State {
     head: Head,
@@ -57,17 +57,18 @@ impl State {
     {
         // What all cells keep is told by their number.
         let _count = cells.len();
-        State { head, book, cells }
+        State::unite(head, book, cells)
     }
 
-    /// The state of this head, this book and cells of its own, with nothing in flight.
+    /// The state of this head, this book and cells whose book it is, with nothing in flight.
     pub fn unite(head: Head, book: Book, cells: Cells) -> State
         requires flight { cells.flight ≡ 0 }
-        requires made_for { cells.book ≡ book }
         requires owned { IsBookOf book (seen_of cells) }
         ensures { result ≡ ledger_from head.level head.now book cells }
     {
-        State::of(head, book, cells)
+        // What every book keeps is told by its length.
+        let _contracts = book.len();
+        State { head, book, cells }
     }
 
     /// The head, the book and the cells.
@@ -120,6 +121,8 @@ impl State {
     pub fn same(&self, other: &State) -> bool
         ensures { IsTrue result ↔ (self.now ≡ other.now) }
     {
-        self.head == other.head && self.cells.same(&other.cells)
+        self.head == other.head
+            && self.book.same(&other.book)
+            && self.cells.holds_same(&other.cells)
     }
 }

@@ -1,9 +1,7 @@
 -- From one cell to the next, until none is left.
-use Rattle.std.proofs.Common.{◌≡◌, List, [], ◌∷◌}
-use Rattle.std.specs.List.{AllByRecursion}
 use Rattle.std.specs.FinMap.{entries}
 use Rattle.ledger_state.proofs.CellLaws.{Held}
-use Rattle.ledger_state.proofs.CellTurns.{IsFitting, IsSpeltHeld, all_fitting, all_spelt, first_fits}
+use Rattle.ledger_state.proofs.CellTurns.{IsSpeltHeld, all_spelt, first_fits}
 use Rattle.ledger_state.proofs.FileWritten.{all_walked, cells_begun, fitting_walk}
 use Rattle.ledger_state.proofs.FitLaws.{cell_written, value_written}
 use Rattle.ledger_state.proofs.Turns.{all_hold}

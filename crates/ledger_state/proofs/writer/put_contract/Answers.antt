@@ -1,7 +1,5 @@
 -- The text is short, and is read again as the script.
-use Rattle.std.proofs.Common.{◌<◌, ◌^◌, length, ap, ◌∙◌, arith}
-use Rattle.code_book.specs.Books.{text_length}
-use Rattle.michelson_code.specs.declared.script.Script.{Script}
+use Rattle.std.proofs.Common.{◌<◌, ◌^◌, length, arith}
 use Rattle.michelson_reader.specs.Printed.{script_text}
 use Rattle.michelson_reader.specs.Script.{IsScriptOf}
 use Rattle.ledger_state.proofs.ScriptTexts.{on_ok, printed_again, short_text}

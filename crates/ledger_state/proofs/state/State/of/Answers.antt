@@ -1,8 +1,6 @@
--- What all cells keep, and that each contract has its storage.
-use Rattle.std.proofs.Common.{arith}
-use Rattle.ledger_state.proofs.States.{is_state}
+-- A book for which cells were made is theirs, where each contract has its storage.
+use Rattle.ledger_state.proofs.States.{made_for_owner}
 use Rattle.ledger_state.proofs.state.State.of.Goals as goal
 
-pub invariant_of-result : goal.invariant_of-result
-invariant_of-result c =
-    is_state c.args.head.level c.args.head.now c.args.book c.args.cells (omega arith) (omega arith) c.requires.flight c.requires.made_for c.requires.housed c.len-count.ensures.lawful
+pub unite-requires-clause-owned : goal.unite-requires-clause-owned
+unite-requires-clause-owned c = made_for_owner c.args.book c.args.cells c.requires.made_for c.requires.housed c.len-count.ensures.lawful
