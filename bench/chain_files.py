@@ -19,21 +19,40 @@ def account(number):
     return bytes(14) + struct.pack('>Q', number)
 
 
+def balance(address, amount):
+    """The cell of a balance and its value."""
+    return b'\x00' + address, b'\x05' + struct.pack('>Q', amount)
+
+
 def cell(address, amount):
-    return b'\x00' + address + b'\x05' + struct.pack('>Q', amount)
+    return b''.join(balance(address, amount))
 
 
-def state_bytes(level, now, balances, contracts=0):
+def book_bytes(contracts):
+    """The contracts of a state, a list of pairs of address and printed script, in the order of the file."""
+    return struct.pack('>I', len(contracts)) + b''.join(a + struct.pack('>I', len(text)) + text for a, text in contracts)
+
+
+def state_with(level, now, contracts, cells):
+    """A state with contracts. `cells` is a list of pairs of a cell's bytes and its value's, in the order of the file."""
+    head = b'FJS1' + struct.pack('>IQ', level, now) + book_bytes(contracts)
+    return head + struct.pack('>I', len(cells)) + b''.join(name + value for name, value in cells)
+
+
+def digest_with(contracts, cells):
+    buckets = [hashlib.sha256() for _ in range(256)]
+    for name, value in cells:
+        buckets[sha256(name)[0]].update(name + value)
+    return sha256(sha256(book_bytes(contracts)) + b''.join(b.digest() for b in buckets))
+
+
+def state_bytes(level, now, balances):
     """A state without contracts. `balances` is a list of pairs of address and amount, in the order of the file."""
-    head = b'FJS1' + struct.pack('>IQII', level, now, contracts, len(balances))
-    return head + b''.join(cell(a, n) for a, n in balances)
+    return state_with(level, now, [], [balance(a, n) for a, n in balances])
 
 
 def digest(balances):
-    buckets = [hashlib.sha256() for _ in range(256)]
-    for address, amount in balances:
-        buckets[sha256(b'\x00' + address)[0]].update(cell(address, amount))
-    return sha256(sha256(bytes(4)) + b''.join(b.digest() for b in buckets))
+    return digest_with([], [balance(a, n) for a, n in balances])
 
 
 def op_bytes(source, dest, amount, gas=0, turns=0, entry=b'default', param=b'\x00'):

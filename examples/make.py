@@ -11,8 +11,8 @@ import sys
 
 HERE = os.path.dirname(os.path.abspath(__file__))
 sys.path.insert(0, os.path.join(HERE, '..', 'bench'))
-from chain_files import (APPLIED, BALANCE_TOO_LOW, CREDIT, OWN, READ, account, block_bytes, block_on, cell,  # noqa: E402
-                         digest, op_bytes, state_bytes)
+from chain_files import (APPLIED, BALANCE_TOO_LOW, CREDIT, OWN, READ, account, balance, block_bytes, block_on,  # noqa: E402
+                         cell, digest, digest_with, op_bytes, state_bytes, state_with)
 
 A, B, C, T = (account(n) for n in (10, 11, 12, 13))
 CONTRACT = b'\x01' + B[1:]
@@ -22,7 +22,7 @@ USAGE = ('usage: compile SRC OUT | check CODE | genesis TEXT STATE | mine STATE 
          'validate STATE BLOCK NEXT WORKERS | show STATE | load NUMBER COUNT WORKERS\n')
 WORDS = 'validate state block next 1'
 LATEST_LEVEL = 2 ** 32 - 1
-GROUPS = ('accepted', 'refused', 'malformed', 'not_yet', 'many', 'states', 'scripts_checked', 'words', 'files')
+GROUPS = ('accepted', 'refused', 'malformed', 'not_yet', 'many', 'states', 'scripts_checked', 'genesis', 'show', 'words', 'files')
 
 written = set()
 
@@ -340,6 +340,131 @@ def faulty_scripts():
     at('set_out_of_order', 'Order', '{ PUSH (set nat) { 2 ; 1 } }', '1 }')
 
 
+# A state with a counter, which has money too, and a tally: its text as `show` prints it, its contracts and its cells.
+COUNTER_AT, TALLY_AT = (b'\x01' + account(n)[1:] for n in (33, 34))
+COUNTER = 'parameter int ;\nstorage int ;\ncode { UNPAIR ; ADD ; NIL operation ; PAIR }\n'
+TALLY = ('parameter nat ;\nstorage (big_map address nat) ;\ncode { UNPAIR ; SWAP ; DUP ; SENDER ; GET ; '
+         'IF_NONE { PUSH nat 0 } {} ; DIG 2 ; ADD ; SOME ; SENDER ; UPDATE ; NIL operation ; PAIR }\n')
+SHOWN = f'''level 7
+now 60
+balance 0x{A.hex()} 100
+balance 0x{C.hex()} 50
+contract 0x{COUNTER_AT.hex()}
+{COUNTER}end
+balance 0x{COUNTER_AT.hex()} 5
+storage 0x{COUNTER_AT.hex()} -3
+contract 0x{TALLY_AT.hex()}
+{TALLY}end
+storage 0x{TALLY_AT.hex()} {{ Elt 0x{A.hex()} 2 ; Elt 0x{C.hex()} 9 }}
+'''
+CONTRACTS = [(COUNTER_AT, COUNTER.encode()), (TALLY_AT, TALLY.encode())]
+
+
+def storage(address, value):
+    return b'\x01' + address, value
+
+
+def entry_of_an_address(contract, key, value):
+    return b'\x02' + contract + b'\x00\x09' + key, value
+
+
+def number(tag, n):
+    return bytes([tag]) + n.to_bytes(16, 'big', signed=True)
+
+
+CELLS = [*(balance(*held) for held in [*OPENING, (COUNTER_AT, 5)]), storage(COUNTER_AT, number(3, -3)), storage(TALLY_AT, b'\x12\x00'),
+         *(entry_of_an_address(TALLY_AT, key, number(4, n)) for key, n in ((A, 2), (C, 9)))]
+SHOWN_STATE = state_with(7, 60, CONTRACTS, CELLS)
+
+
+def read_text(name):
+    """The contract that stands in examples/scripts."""
+    with open(os.path.join(HERE, 'scripts', name)) as held:
+        return held.read()
+
+
+# The same state as somebody writes it: comments, contracts as they stand in examples/scripts, lines in another order.
+WRITTEN = f'''# Two accounts, a counter and a tally of its callers.
+level 7
+now 60
+
+contract 0x{COUNTER_AT.hex()}
+{read_text('counter.tz')}end
+storage 0x{COUNTER_AT.hex()}  -3
+
+contract 0x{TALLY_AT.hex().upper()}
+{read_text('tally.tz')}end
+# what each has called with
+storage 0x{TALLY_AT.hex()} {{ Elt 0x{A.hex()} 2 ; Elt 0x{C.hex()} 9 }}
+
+balance 0x{A.hex()} 100
+balance 0x{B.hex()} 0
+balance 0x{C.hex()} 50
+balance 0x{COUNTER_AT.hex()} 5
+'''
+
+
+def genesis_texts():
+    """Texts, and the states that are written of them."""
+    def founds(name, text, contracts, cells, level=7, now=60):
+        case('genesis', name, f'state {digest_with(contracts, cells).hex()}\n', 0, 'genesis text state', {'text': text.encode()},
+             {'state': state_with(level, now, contracts, cells)})
+    founds('counter_and_tally', WRITTEN, CONTRACTS, CELLS)
+    founds('counter_and_tally_as_shown', SHOWN, CONTRACTS, CELLS)
+    founds('no_accounts', 'level 7\nnow 60\n', [], [])
+    founds('last_line_without_an_end', f'level 7\nnow 60\nbalance 0x{A.hex()} 100', [], [balance(A, 100)])
+    founds('greatest_numbers', f'level 1000000000\nnow {2 ** 63 - 1}\nbalance 0x{A.hex()} {2 ** 63 - 1}\n', [],
+           [balance(A, 2 ** 63 - 1)], 10 ** 9, 2 ** 63 - 1)
+
+
+def faulty_texts():
+    """Texts with a fault each, and what is told of it."""
+    a, contract, implicit = f'0x{A.hex()}', f'0x{COUNTER_AT.hex()}', f'0x{B.hex()}'
+    counter = f'contract {contract}\n{COUNTER}end\n'
+
+    def faulty(name, kind, place, *lines, head='level 7\nnow 60\n'):
+        text = head + ''.join(line + '\n' for line in lines)
+        case('genesis', name, f'text: {kind} at line {place}\n', 6, 'genesis text state', {'text': text.encode('latin-1')})
+    faulty('empty_text', 'Missing', 1, head='')
+    faulty('level_behind_now', 'Missing', 1, 'now 60', 'level 7', head='')
+    faulty('now_is_missing', 'Missing', 2, head='level 7\n')
+    faulty('word_that_begins_no_line', 'BadWord', 3, f'account {a} 1')
+    faulty('one_word_too_many', 'BadWord', 3, f'balance {a} 1 2')
+    faulty('one_word_too_few', 'BadWord', 3, f'balance {a}')
+    faulty('letter_that_is_not_ascii', 'BadWord', 4, f'balance {a} x', '# caf\xe9')
+    faulty('number_with_a_leading_zero', 'BadNumber', 3, f'balance {a} 01')
+    faulty('balance_of_2_to_63', 'BadNumber', 3, f'balance {a} {2 ** 63}')
+    faulty('level_past_the_greatest', 'BadNumber', 1, head='level 1000000001\nnow 60\n')
+    faulty('address_of_43_digits', 'BadAddress', 3, f'balance {a[:-1]} 1')
+    faulty('contract_at_an_account', 'BadAddress', 3, counter.replace(contract, implicit).rstrip('\n'))
+    faulty('storage_of_another_type', 'BadData', 8, counter + f'storage {contract} "five"')
+    faulty('contract_that_may_not_run', 'BadScript', 3, counter.replace('ADD', 'CAR') + f'storage {contract} 5')
+    faulty('script_without_an_end', 'NotClosed', 3, counter.replace('end\n', '') + f'storage {contract} 5')
+    faulty('balance_twice', 'Twice', 4, f'balance {a} 1', f'balance {a} 1')
+    faulty('contract_twice', 'Twice', 8, counter + counter.rstrip('\n'))
+    faulty('storage_before_its_contract', 'Unknown', 3, f'storage {contract} 5', counter.rstrip('\n'))
+    faulty('balance_of_no_contract', 'Unknown', 3, f'balance {contract} 1')
+    faulty('supply_of_2_to_63', 'TooMuch', 4, f'balance {a} {2 ** 63 - 1}', f'balance {implicit} 1')
+    faulty('contract_without_a_storage', 'NoStorage', 3, counter + f'balance {contract} 1')
+
+
+def shown_states():
+    """States, and what is shown of them."""
+    def shows(name, text, state):
+        case('show', name, text, 0, 'show state', {'state': state})
+    shows('counter_and_tally', SHOWN, SHOWN_STATE)
+    shows('no_accounts', 'level 0\nnow 0\n', state_bytes(0, 0, []))
+    shows('two_accounts', f'level 0\nnow 0\nbalance 0x{A.hex()} 100\nbalance 0x{C.hex()} 50\n', STATE)
+    shows('greatest_numbers', f'level {LATEST_LEVEL}\nnow {2 ** 64 - 1}\nbalance 0x{A.hex()} {2 ** 63 - 1}\n',
+          state_bytes(LATEST_LEVEL, 2 ** 64 - 1, [(A, 2 ** 63 - 1)]))
+
+    def malformed(name, place, state):
+        case('show', name, f'state: Malformed at {place}\n', 6, 'show state', {'state': state})
+    malformed('cut_by_one_byte', len(SHOWN_STATE) - 16, SHOWN_STATE[:-1])
+    malformed('script_that_is_not_as_printed', 42, SHOWN_STATE.replace(b'int ;\n', b'int; \n', 1))
+    malformed('empty_file', 0, b'')
+
+
 def words_and_files():
     both = {'state': STATE, 'block': EMPTY}
 
@@ -352,6 +477,11 @@ def words_and_files():
     usage('check_without_a_word', 'check')
     usage('check_of_two_words', 'check code code')
     usage('empty_name_of_the_code', 'check ')
+    usage('genesis_of_one_word', 'genesis state')
+    usage('genesis_of_three_words', 'genesis state next next')
+    usage('empty_name_of_the_text', 'genesis  next')
+    usage('show_without_a_word', 'show')
+    usage('show_of_two_words', 'show state state')
     usage('no_workers', 'validate state block next 0')
     usage('sixty_five_workers', 'validate state block next 65')
     usage('workers_with_a_leading_zero', 'validate state block next 01')
@@ -368,6 +498,13 @@ def words_and_files():
     case('files', 'state_and_block_are_bad', 'state: Malformed at 0\n', 6, WORDS, {'state': b'', 'block': b''})
     case('files', 'next_cannot_be_written', 'cannot write nowhere/next\n', 4, 'validate state block nowhere/next 1', both)
     case('files', 'code_is_missing', 'cannot read code\n', 3, 'check code')
+    text = {'text': SHOWN.encode()}
+    founded = f'state {digest_with(CONTRACTS, CELLS).hex()}\n'
+    case('files', 'text_is_missing', 'cannot read text\n', 3, 'genesis text state')
+    case('files', 'state_is_written_over_the_text', founded, 0, 'genesis text text', text, {'text': SHOWN_STATE})
+    case('files', 'genesis_cannot_be_written', 'cannot write nowhere/state\n', 4, 'genesis text nowhere/state', text)
+    case('files', 'faulty_text_before_the_state_is_tried', 'text: Missing at line 1\n', 6, 'genesis text nowhere/state', {'text': b''})
+    case('files', 'shown_state_is_missing', 'cannot read state\n', 3, 'show state')
     case('files', 'refused_before_next_is_tried', 'refused: Malformed at 0\n', 1, 'validate state block nowhere/next 1',
          {'state': STATE, 'block': b''})
 
@@ -376,7 +513,7 @@ def main():
     for group in GROUPS:
         shutil.rmtree(os.path.join(HERE, group), ignore_errors=True)
     for make in (accepted_blocks, refused_blocks, malformed_blocks, blocks_not_built_yet, blocks_of_many, bad_states,
-                 typed_scripts, faulty_scripts, words_and_files):
+                 typed_scripts, faulty_scripts, genesis_texts, faulty_texts, shown_states, words_and_files):
         make()
     print(f'{len(written)} examples')
 

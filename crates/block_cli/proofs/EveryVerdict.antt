@@ -21,11 +21,13 @@ use Rattle.plain_ledger.specs.Ledger.{Ledger}
 use Rattle.plain_ledger.specs.Reading.{ledger_of}
 use Rattle.transfer_blocks.specs.Spelling.{spelling}
 use Rattle.transfer_blocks.specs.Reading.{block_of}
-use Rattle.block_cli.specs.Commands.{FileName, Check, Validate}
+use Rattle.block_cli.specs.Commands.{FileName, Check, Genesis, Show, Validate}
 use Rattle.block_cli.specs.Report.{malformed, not_yet}
 use Rattle.block_cli.specs.Answer.{Answer, bad_input}
 use Rattle.block_cli.specs.Validating.{answer_to, ValidatesOn}
 use Rattle.block_cli.specs.Checking.{HaveAFinding, answer_of}
+use Rattle.block_cli.specs.Genesis.{genesis_answer}
+use Rattle.block_cli.specs.Showing.{show_answer}
 use Rattle.block_cli.specs.Meaning.{ContentsHaveAnAnswer}
 use Rattle.transfer_blocks.specs.Block.{BlockView, IsBlock}
 use Rattle.transfer_blocks.specs.declared.transfer.Receipt.{Receipt}
@@ -201,3 +203,9 @@ answer_there reads_block finding (Validate state block next workers) (x ∷ y �
 answer_there reads_block finding (Check code) (bytes ∷ []) all fits = let found = finding bytes in (answer_of code found.0, (found.0, found.1, refl))
 answer_there reads_block finding (Check code) [] all fits = absurd (omega arith)
 answer_there reads_block finding (Check code) (x ∷ y ∷ zs) all fits = absurd (omega arith)
+answer_there reads_block finding (Genesis text state) (bytes ∷ []) all fits = (genesis_answer text state bytes, refl)
+answer_there reads_block finding (Genesis text state) [] all fits = absurd (omega arith)
+answer_there reads_block finding (Genesis text state) (x ∷ y ∷ zs) all fits = absurd (omega arith)
+answer_there reads_block finding (Show state) (bytes ∷ []) all fits = (show_answer state bytes, refl)
+answer_there reads_block finding (Show state) [] all fits = absurd (omega arith)
+answer_there reads_block finding (Show state) (x ∷ y ∷ zs) all fits = absurd (omega arith)

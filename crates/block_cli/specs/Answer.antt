@@ -1,7 +1,9 @@
 -- What comes of a command: a status, the text that is printed, and the files that are written.
-use Rattle.std.specs.Prelude.{◌≡◌, ℕ, List, [], ◌∷◌, length, map, find, nat_lt, codes, Option, Some, None}
-use Rattle.std.specs.FinMap.{insert}
+use Rattle.std.specs.Prelude.{◌≡◌, ℕ, ◌^◌, List, [], ◌∷◌, length, map, find, nat_lt, codes, if◌then◌else◌, Option, Some, None}
+use Rattle.std.specs.FinMap.{insert, len}
 use Rattle.edge_io.specs.Outside.{Held, most_bytes}
+use Rattle.ledger_state.specs.Ledger.{Ledger}
+use Rattle.ledger_state.specs.Spelling.{spelling}
 use Rattle.block_cli.specs.Commands.{FileName, Command, writes}
 use Rattle.block_cli.specs.Report.{bad_input_line, refused_line}
 use Rattle.block_cli.specs.declared.status.Status.{Status}
@@ -47,6 +49,10 @@ abbrev pub limited : Answer → Answer
 limited answer = limited_by answer (first_too_long answer.written)
 
 -- ---- files that are written
+
+-- all is done, and the state is written; one of 2^32 cells or more has no file, since its number of cells has 4 bytes
+abbrev pub saving : List ℕ → FileName → Ledger → Answer
+saving text name s = if nat_lt (len s.cells) (2 ^ 32) then done text ((name, spelling s) ∷ []) else too_long name
 
 -- what an answer to contents may write, by its status: each file of the command, or none
 abbrev pub WritesUnder : Command → Status → List File → Type 0

@@ -1,4 +1,4 @@
--- Why a text is no script that may run: what is told of it, and where.
+-- Why a text is no script that may run, or says no state: what is told of it, and where.
 use Rattle.std.specs.Prelude.{ℕ, List, [], ◌∷◌, ◌++◌, codes}
 use Rattle.std.specs.Fmt.{decimal}
 use Rattle.micheline_text.specs.declared.fault.TextFault.{TextFault}
@@ -9,6 +9,9 @@ use Rattle.michelson_code.specs.declared.type_fault.TypeKind.{TypeKind}
 use Rattle.michelson_code.specs.declared.type_fault.TypeKind.TheVariants as kind
 use Rattle.michelson_reader.specs.declared.fault.ReadFault.{ReadFault}
 use Rattle.michelson_reader.specs.declared.fault.ReadFault.TheVariants as read
+use Rattle.chain_text.specs.declared.fault.ChainFault.{ChainFault}
+use Rattle.chain_text.specs.declared.fault.ChainKind.{ChainKind}
+use Rattle.chain_text.specs.declared.fault.ChainKind.TheVariants as chain
 
 -- a fault by its name, and the offset of the byte at which it is told
 abbrev pub at_offset : List ℕ → ℕ → List ℕ
@@ -65,3 +68,21 @@ path_text (n ∷ path) = decimal n ++ dotted path
 
 abbrev pub type_fault : List ℕ → TypeKind → List ℕ
 type_fault path k = type_kind_name k ++ codes " at " ++ path_text path
+
+-- of a text that says no state, at its line
+abbrev pub chain_kind_name : ChainKind → List ℕ
+chain_kind_name chain.Missing = codes "Missing"
+chain_kind_name chain.BadWord = codes "BadWord"
+chain_kind_name chain.BadNumber = codes "BadNumber"
+chain_kind_name chain.BadAddress = codes "BadAddress"
+chain_kind_name chain.BadName = codes "BadName"
+chain_kind_name chain.BadData = codes "BadData"
+chain_kind_name chain.BadScript = codes "BadScript"
+chain_kind_name chain.NotClosed = codes "NotClosed"
+chain_kind_name chain.Twice = codes "Twice"
+chain_kind_name chain.Unknown = codes "Unknown"
+chain_kind_name chain.TooMuch = codes "TooMuch"
+chain_kind_name chain.NoStorage = codes "NoStorage"
+
+abbrev pub chain_fault : ChainFault → List ℕ
+chain_fault f = chain_kind_name f.kind ++ codes " at line " ++ decimal f.line

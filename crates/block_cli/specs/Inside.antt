@@ -11,7 +11,7 @@ use Rattle.block_cli.specs.declared.input.Unread.{Unread}
 use Rattle.block_cli.specs.declared.input.Unread.TheVariants as unread
 use Rattle.block_cli.specs.declared.status.Status.{Status}
 use Rattle.block_cli.specs.declared.status.Status.TheVariants.{Done, Refused, Usage, ReadFault, WriteFault, NoMemory, BadInput}
-use Rattle.block_cli.specs.Commands.{FileName, Command, Check, Validate}
+use Rattle.block_cli.specs.Commands.{FileName, Command, Check, Genesis, Show, Validate}
 use Rattle.block_cli.specs.Report.{cannot_write_line}
 use Rattle.block_cli.specs.Answer.{File, Answer, done}
 use Rattle.block_cli.specs.Inputs.{AreRead, StopsAtLong, StopsAtFault}
@@ -23,6 +23,8 @@ use Rattle.block_cli.specs.Runs.{GivesUp}
 abbrev pub command_in : Asked → Command
 command_in (asked.Validate state block next workers) = Validate state.now block.now next.now workers
 command_in (asked.Check code) = Check code.now
+command_in (asked.Genesis text state) = Genesis text.now state.now
+command_in (asked.Show state) = Show state.now
 
 abbrev pub file_in : Made → File
 file_in file = (file.name.now, file.bytes.items)

@@ -8,6 +8,8 @@ pub mod Verdict
 pub mod Validating
 pub mod Faulty
 pub mod Checking
+pub mod Genesis
+pub mod Showing
 pub mod Meaning
 pub mod Seen
 pub mod Inputs

@@ -38,6 +38,10 @@ refused_line why = line (codes "refused: " ++ why)
 abbrev pub accepted_line : Ledger → List ℕ
 accepted_line s = line (codes "accepted, level " ++ decimal s.level ++ codes ", state " ++ encode_lower (digest_of s))
 
+-- the digest of a state
+abbrev pub state_line : List ℕ → List ℕ
+state_line digest = line (codes "state " ++ encode_lower digest)
+
 -- ---- what stands in a line of a bad file or a refused block
 
 -- where bytes break their format, or hold what isn't built yet

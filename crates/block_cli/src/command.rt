@@ -7,6 +7,8 @@ ghost use Rattle.block_cli.specs.Inside.{answer_in, bytes_in, command_in};
 
 use crate::answer::Answer;
 use crate::check::check;
+use crate::genesis::genesis;
+use crate::show::show;
 use crate::validate::validate;
 use edge_io::Workers;
 use std::alloc::{AllocError, Global};
@@ -29,6 +31,18 @@ pub enum Command<'a> {
     Check {
         /// The name of the file that holds the script's text, not empty.
         code: &'a str,
+    },
+    /// Writes the state that a text says.
+    Genesis {
+        /// The name of the file that holds the text, not empty.
+        text: &'a str,
+        /// The name under which the state is written, not empty.
+        state: &'a str,
+    },
+    /// Prints the text of a state, and writes nothing.
+    Show {
+        /// The name of the file that holds the state, not empty.
+        state: &'a str,
     },
 }
 
@@ -58,7 +72,10 @@ impl<'a> Command<'a> {
         ensures { IsTrue result ↔ SurelyEnds (command_in self.now) }
     {
         match self {
-            Command::Validate { .. } | Command::Check { .. } => true,
+            Command::Validate { .. }
+            | Command::Check { .. }
+            | Command::Genesis { .. }
+            | Command::Show { .. } => true,
         }
     }
 
@@ -70,6 +87,8 @@ impl<'a> Command<'a> {
         match self {
             Command::Validate { state, block, .. } => Vec::from_slice(alloc, &[*state, *block]),
             Command::Check { code } => Vec::from_slice(alloc, &[*code]),
+            Command::Genesis { text, .. } => Vec::from_slice(alloc, &[*text]),
+            Command::Show { state } => Vec::from_slice(alloc, &[*state]),
         }
     }
 
@@ -86,6 +105,8 @@ impl<'a> Command<'a> {
                 validate(alloc, state, next, spelt, &block)
             }
             Command::Check { code } => check(alloc, code, &only(contents)),
+            Command::Genesis { text, state } => genesis(alloc, text, state, &only(contents)),
+            Command::Show { state } => show(alloc, state, &only(contents)),
         }
     }
 }

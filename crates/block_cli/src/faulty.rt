@@ -1,11 +1,13 @@
-//! The lines about a script: why its text is none, why it may not run, or what it weighs.
+//! The lines about a text: why it is no script, why the script may not run or what it weighs, and why
+//! it says no state.
 ghost use Rattle.std.specs.Prelude.{◌≡◌, ◌++◌, IfOk, OnOk};
 ghost use Rattle.michelson_code.specs.Weight.{code_count, code_weight};
 ghost use Rattle.block_cli.specs.Checking.{typed_line};
-ghost use Rattle.block_cli.specs.Faulty.{at_offset, data_kind_name, dotted, path_text, read_fault, text_fault, type_fault, type_kind_name};
+ghost use Rattle.block_cli.specs.Faulty.{at_offset, chain_fault, chain_kind_name, data_kind_name, dotted, path_text, read_fault, text_fault, type_fault, type_kind_name};
 ghost use Rattle.block_cli.specs.Report.{bad_input_line};
 
 use crate::report::{line_of, numbered, put_number};
+use chain_text::{ChainFault, ChainKind};
 use data_nodes::{DataFault, DataKind};
 use micheline_text::TextFault;
 use michelson_code::{
@@ -44,6 +46,16 @@ pub fn typed(alloc: Global, typed: &Typed) -> Result<Vec<u8>, AllocError>
     put_number(alloc, count_of(typed), &mut text)?;
     text.push(b'\n')?;
     Ok(text)
+}
+
+/// The text says no state, and why.
+pub fn no_state(alloc: Global, name: &str, fault: &ChainFault) -> Result<Vec<u8>, AllocError>
+    ensures { IfOk result (λ v. v.items ≡ bad_input_line name.now (chain_fault fault.now)) }
+{
+    let mut why = Vec::from_slice(alloc, chain_kind_name(fault.kind))?;
+    why.extend_from_slice(b" at line ")?;
+    put_number(alloc, u64::from(fault.line), &mut why)?;
+    line_of(alloc, name.as_bytes(), b": ", &why)
 }
 
 /// What the code weighs: so short a code weighs less than 2^64.
@@ -123,6 +135,25 @@ fn type_kind_name(kind: TypeKind) -> &'static [u8]
         TypeKind::TypeTooLarge => b"TypeTooLarge",
         TypeKind::CodeTooLarge => b"CodeTooLarge",
         TypeKind::LastStack => b"LastStack",
+    }
+}
+
+fn chain_kind_name(kind: ChainKind) -> &'static [u8]
+    ensures { result.now ≡ chain_kind_name kind }
+{
+    match kind {
+        ChainKind::Missing => b"Missing",
+        ChainKind::BadWord => b"BadWord",
+        ChainKind::BadNumber => b"BadNumber",
+        ChainKind::BadAddress => b"BadAddress",
+        ChainKind::BadName => b"BadName",
+        ChainKind::BadData => b"BadData",
+        ChainKind::BadScript => b"BadScript",
+        ChainKind::NotClosed => b"NotClosed",
+        ChainKind::Twice => b"Twice",
+        ChainKind::Unknown => b"Unknown",
+        ChainKind::TooMuch => b"TooMuch",
+        ChainKind::NoStorage => b"NoStorage",
     }
 }
 

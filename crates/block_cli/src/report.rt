@@ -3,7 +3,7 @@ ghost use Rattle.std.specs.Prelude.{◌≡◌, ◌++◌, IfOk, OnOk, codes};
 ghost use Rattle.std.specs.Fmt.{decimal};
 ghost use Rattle.hex.specs.Hex.{encode_lower};
 ghost use Rattle.plain_digest.specs.Digest.{digest_of};
-ghost use Rattle.block_cli.specs.Report.{line, usage_line, cannot_read_line, cannot_write_line, memory_line, bad_input_line, refused_line, accepted_line, malformed, not_yet, unordered, cell_text, refusal_text};
+ghost use Rattle.block_cli.specs.Report.{line, usage_line, cannot_read_line, cannot_write_line, memory_line, bad_input_line, refused_line, accepted_line, state_line, malformed, not_yet, unordered, cell_text, refusal_text};
 ghost use Rattle.block_cli.specs.Seen.{Prints};
 
 use crate::print::print_three;
@@ -82,6 +82,21 @@ pub fn not_yet(alloc: Global, name: &str, place: usize) -> Result<Vec<u8>, Alloc
 {
     let why = numbered(alloc, b"NotYet at ", place as u64)?;
     line_of(alloc, name.as_bytes(), b": ", &why)
+}
+
+/// A file would be longer than a reader takes.
+pub fn too_long_line(alloc: Global, name: &str) -> Result<Vec<u8>, AllocError>
+    ensures { IfOk result (λ v. v.items ≡ bad_input_line name.now (codes "TooLong")) }
+{
+    line_of(alloc, name.as_bytes(), b": ", b"TooLong")
+}
+
+/// A state is written, and its digest.
+pub fn state(alloc: Global, digest: &[u8; 32]) -> Result<Vec<u8>, AllocError>
+    ensures { IfOk result (λ v. v.items ≡ state_line digest.now) }
+{
+    let digits = hex::encode(alloc, digest)?;
+    line_of(alloc, b"state ", digits.as_bytes(), b"")
 }
 
 /// A block is refused, and why.

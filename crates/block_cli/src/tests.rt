@@ -1,4 +1,4 @@
-//! Validations of files in memory, where each read, write and print may fail.
+//! Runs on files in memory, where each read, write and print may fail.
 use crate::run::run;
 use crate::status::Status;
 use edge_io::{MemFiles, MemSink, OpenGate};
@@ -188,6 +188,31 @@ const USAGE_LINE: &str = "usage: compile SRC OUT | check CODE | genesis TEXT STA
     mine STATE OPS BLOCK NEXT WORKERS | validate STATE BLOCK NEXT WORKERS | show STATE | \
     load NUMBER COUNT WORKERS\n";
 
+/// The text of a state with an account and a counter, as it is printed.
+const TEXT: &str = "level 7
+now 60
+balance 0x0000000000000000000000000000000000000000000a 100
+contract 0x01000000000000000000000000000000000000000021
+parameter int ;
+storage int ;
+code { UNPAIR ; ADD ; NIL operation ; PAIR }
+end
+balance 0x01000000000000000000000000000000000000000021 50
+storage 0x01000000000000000000000000000000000000000021 5
+";
+
+const STATE_LINE: &str = "state c0a739039b76bc642c30be7dfb56815033c56707d49fe164c340045eb6ed9f90\n";
+
+/// A text that begins no state: its level has a leading zero.
+const FAULTY_TEXT: &str = "level 07\nnow 60\n";
+
+/// What is shown of `s`.
+const SHOWN: &str = "level 0
+now 0
+balance 0x0000000000000000000000000000000000000000000a 100
+balance 0x0000000000000000000000000000000000000000000c 50
+";
+
 /// The call that fails, if any: the k-th read, write or print, counted from 0.
 #[derive(Clone, Copy)]
 enum Fault {
@@ -198,7 +223,9 @@ enum Fault {
 }
 
 /// Words, the call that fails, the wanted status and text, and whether `n` is written.
-const CAUSES: [(&str, Fault, Status, &str, bool); 15] = [
+type Cause = (&'static str, Fault, Status, &'static str, bool);
+
+const VALIDATE_CAUSES: [Cause; 15] = [
     (
         "validate last empty n 1",
         Fault::None,
@@ -300,6 +327,108 @@ const CAUSES: [(&str, Fault, Status, &str, bool); 15] = [
     ),
 ];
 
+const GENESIS_CAUSES: [Cause; 10] = [
+    (
+        "genesis text n",
+        Fault::None,
+        Status::Done,
+        STATE_LINE,
+        true,
+    ),
+    (
+        "genesis faulty n",
+        Fault::None,
+        Status::BadInput,
+        "faulty: BadNumber at line 1\n",
+        false,
+    ),
+    (
+        "genesis absent n",
+        Fault::None,
+        Status::ReadFault,
+        "cannot read absent\n",
+        false,
+    ),
+    (
+        "genesis text",
+        Fault::None,
+        Status::Usage,
+        USAGE_LINE,
+        false,
+    ),
+    (
+        "genesis text n n",
+        Fault::None,
+        Status::Usage,
+        USAGE_LINE,
+        false,
+    ),
+    (
+        "genesis text n",
+        Fault::Read(0),
+        Status::ReadFault,
+        "cannot read text\n",
+        false,
+    ),
+    (
+        "genesis text n",
+        Fault::Write(0),
+        Status::WriteFault,
+        "cannot write n\n",
+        false,
+    ),
+    (
+        "genesis text n",
+        Fault::Print(0),
+        Status::WriteFault,
+        "",
+        true,
+    ),
+    (
+        "genesis faulty n",
+        Fault::Write(0),
+        Status::BadInput,
+        "faulty: BadNumber at line 1\n",
+        false,
+    ),
+    (
+        "genesis faulty n",
+        Fault::Print(0),
+        Status::BadInput,
+        "",
+        false,
+    ),
+];
+
+const SHOW_CAUSES: [Cause; 8] = [
+    ("show s", Fault::None, Status::Done, SHOWN, false),
+    (
+        "show short",
+        Fault::None,
+        Status::BadInput,
+        "short: Malformed at 80\n",
+        false,
+    ),
+    (
+        "show absent",
+        Fault::None,
+        Status::ReadFault,
+        "cannot read absent\n",
+        false,
+    ),
+    ("show s n", Fault::None, Status::Usage, USAGE_LINE, false),
+    (
+        "show s",
+        Fault::Read(0),
+        Status::ReadFault,
+        "cannot read s\n",
+        false,
+    ),
+    ("show s", Fault::Write(0), Status::Done, SHOWN, false),
+    ("show s", Fault::Print(0), Status::WriteFault, "", false),
+    ("show short", Fault::Print(0), Status::BadInput, "", false),
+];
+
 /// The digits of a word.
 fn digits_of(word: &str) -> &str {
     for (name, digits) in &BYTES {
@@ -319,12 +448,14 @@ fn bytes_of(alloc: Global, words: &str) -> Result<Vec<u8>, Fail> {
     Ok(bytes)
 }
 
-/// The files, with a block and a state that lack their last byte, and a block with one more.
+/// The files, with texts, a block and a state that lack their last byte, and a block with one more.
 fn files_of(alloc: Global) -> Result<MemFiles, Fail> {
     let mut files = MemFiles::new(alloc);
     for (name, words) in &FILES {
         files.put(alloc, name, &bytes_of(alloc, words)?)?;
     }
+    files.put(alloc, "text", TEXT.as_bytes())?;
+    files.put(alloc, "faulty", FAULTY_TEXT.as_bytes())?;
     let mut paid = bytes_of(alloc, FILES[3].1)?;
     paid.push(0)?;
     files.put(alloc, "longer", &paid)?;
@@ -417,14 +548,42 @@ fn false_blocks_are_refused_with_one_worker_and_with_sixty_four(
     Ok(())
 }
 
-#[test]
-fn a_validation_ends_by_its_first_cause(rt: HostRuntime) -> Result<(), Fail> {
-    for (words, fault, status, text, is_written) in &CAUSES {
-        let ended = ran(&rt, words, *fault)?;
+/// Whether each run ends by its cause.
+fn end_by_their_causes<R: AllocGlobal + Abort>(rt: &R, causes: &[Cause]) -> Result<(), Fail> {
+    for (words, fault, status, text, is_written) in causes {
+        let ended = ran(rt, words, *fault)?;
         assert_eq!(rt; ended.status, *status, "{words}");
         assert_eq!(rt; ended.text.as_slice(), text.as_bytes(), "{words}");
         assert_eq!(rt; ended.next.is_some(), *is_written, "{words}");
     }
+    Ok(())
+}
+
+#[test]
+fn a_validation_ends_by_its_first_cause(rt: HostRuntime) -> Result<(), Fail> {
+    end_by_their_causes(&rt, &VALIDATE_CAUSES)
+}
+
+#[test]
+fn a_genesis_ends_by_its_first_cause(rt: HostRuntime) -> Result<(), Fail> {
+    end_by_their_causes(&rt, &GENESIS_CAUSES)
+}
+
+#[test]
+fn a_show_ends_by_its_first_cause(rt: HostRuntime) -> Result<(), Fail> {
+    end_by_their_causes(&rt, &SHOW_CAUSES)
+}
+
+#[test]
+fn the_state_of_a_text_is_shown_as_the_text(rt: HostRuntime) -> Result<(), Fail> {
+    let alloc = rt.alloc();
+    let founded = ran(&rt, "genesis text n", Fault::None)?;
+    let mut files = MemFiles::new(alloc);
+    let state = founded.next.ok_or("nothing is written")?;
+    files.put(alloc, "n", &state)?;
+    let shown = ran_on(&rt, "show n", files, Fault::None)?;
+    assert_eq!(rt; shown.status, Status::Done);
+    assert_eq!(rt; shown.text.as_slice(), TEXT.as_bytes());
     Ok(())
 }
 

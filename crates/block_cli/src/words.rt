@@ -2,7 +2,7 @@
 ghost use Rattle.std.specs.Prelude.{◌≡◌, ◌≤◌, map, string_bytes};
 ghost use Rattle.std.specs.Option.{option_map};
 ghost use Rattle.block_cli.specs.Numbers.{number_of, workers_of, most_number};
-ghost use Rattle.block_cli.specs.Commands.{check_of, command_of, validate_of};
+ghost use Rattle.block_cli.specs.Commands.{check_of, command_of, genesis_of, show_of, validate_of};
 ghost use Rattle.block_cli.specs.Inside.{begins_otherwise, command_in};
 
 use crate::command::Command;
@@ -66,6 +66,37 @@ fn check_of(words: &[String]) -> Option<Command<'_>>
     })
 }
 
+/// The words behind `genesis`.
+fn genesis_of(words: &[String]) -> Option<Command<'_>>
+    ensures { option_map command_in result ≡ genesis_of (map string_bytes words.now) }
+{
+    let [text, state] = words else {
+        return None;
+    };
+    if text.is_empty() || state.is_empty() {
+        return None;
+    }
+    Some(Command::Genesis {
+        text: text.as_str(),
+        state: state.as_str(),
+    })
+}
+
+/// The words behind `show`.
+fn show_of(words: &[String]) -> Option<Command<'_>>
+    ensures { option_map command_in result ≡ show_of (map string_bytes words.now) }
+{
+    let [state] = words else {
+        return None;
+    };
+    if state.is_empty() {
+        return None;
+    }
+    Some(Command::Show {
+        state: state.as_str(),
+    })
+}
+
 /// The command that the words ask for.
 #[tactic(auto, unfolding(crate::specs::Commands::command_of))]
 pub fn command_of(words: &[String]) -> Option<Command<'_>>
@@ -75,6 +106,8 @@ pub fn command_of(words: &[String]) -> Option<Command<'_>>
     match verb.as_str() {
         "validate" => validate_of(words),
         "check" => check_of(words),
+        "genesis" => genesis_of(words),
+        "show" => show_of(words),
         _ => None,
     }
 }
